@@ -3,9 +3,9 @@
 use std::alloc::{AllocError, Global};
 use text_tokens::{Primitive, documentation};
 use text_trees::{
-    CaseTree, Declared, ExternTree, FieldTree, FileTree, Gates, ItemTree, LabelTree, MemberTree,
-    PackageHead, PackageTree, ParamTree, PathTree, Prefix, ResourceMember, SignatureTree, Span,
-    TypeTree, UsedName, WorldMember,
+    CaseTree, Declared, ExternTree, FieldTree, Gates, LabelTree, MemberTree, PackageHead,
+    ParamTree, PathTree, Prefix, ResourceMember, SignatureTree, Span, TextItem, TextTree, TypeTree,
+    UsedName, WorldMember, WorldPart,
 };
 
 // A text, and what has been written of its tree.
@@ -200,14 +200,18 @@ fn put_path(alloc: Global, page: &mut Page<'_>, path: PathTree) -> Written {
     }
 }
 
-fn put_use(alloc: Global, page: &mut Page<'_>, path: PathTree, names: &[UsedName]) -> Written {
-    page.written.push_str("use ")?;
-    put_path(alloc, page, path)?;
+fn put_names(alloc: Global, page: &mut Page<'_>, names: &[UsedName]) -> Written {
     for used in names {
         put_with(alloc, page, " ", used.other, "")?;
         put_option(alloc, page, "=", used.own, "")?;
     }
     Ok(())
+}
+
+fn put_use(alloc: Global, page: &mut Page<'_>, path: PathTree, names: &[UsedName]) -> Written {
+    page.written.push_str("use ")?;
+    put_path(alloc, page, path)?;
+    put_names(alloc, page, names)
 }
 
 // ---- declared types
@@ -370,44 +374,51 @@ fn put_world_member(alloc: Global, page: &mut Page<'_>, member: &WorldMember) ->
     }
 }
 
-fn put_world_members(alloc: Global, page: &mut Page<'_>, members: &[WorldMember]) -> Written {
-    for member in members {
+fn put_part(alloc: Global, page: &mut Page<'_>, part: &WorldPart) -> Written {
+    match part {
+        WorldPart::Has(member) => put_world_member(alloc, page, member),
+        WorldPart::Includes(prefix, path, names) => {
+            put_prefix(alloc, page, *prefix)?;
+            page.written.push_str("include ")?;
+            put_path(alloc, page, *path)?;
+            put_names(alloc, page, names)
+        }
+    }
+}
+
+fn put_parts(alloc: Global, page: &mut Page<'_>, parts: &[WorldPart]) -> Written {
+    for part in parts {
         page.written.push_str(" {")?;
-        put_world_member(alloc, page, member)?;
+        put_part(alloc, page, part)?;
         page.written.push_str("}")?;
     }
     Ok(())
 }
 
-fn put_item(alloc: Global, page: &mut Page<'_>, item: &ItemTree) -> Written {
+fn put_item(alloc: Global, page: &mut Page<'_>, item: &TextItem) -> Written {
     match item {
-        ItemTree::InterfaceItem(docs, gates, name, members) => {
+        TextItem::AnInterface(docs, gates, name, members) => {
             put_docs(alloc, page, *docs)?;
             put_gates(alloc, page, *gates)?;
             put_with(alloc, page, "interface ", *name, "")?;
             put_members(alloc, page, members)
         }
-        ItemTree::WorldItem(docs, gates, name, members) => {
+        TextItem::AWorld(docs, gates, name, parts) => {
             put_docs(alloc, page, *docs)?;
             put_gates(alloc, page, *gates)?;
             put_with(alloc, page, "world ", *name, "")?;
-            put_world_members(alloc, page, members)
+            put_parts(alloc, page, parts)
+        }
+        TextItem::AName(path, own) => {
+            page.written.push_str("use ")?;
+            put_path(alloc, page, *path)?;
+            put_option(alloc, page, "=", *own, "")
         }
     }
 }
 
-// ---- packages and files
-
-fn put_head(alloc: Global, page: &mut Page<'_>, head: PackageHead) -> Written {
-    put_with(alloc, page, "", head.namespace, " ")?;
-    put_span(alloc, page, head.name)?;
-    put_option(alloc, page, " ", head.version, "")
-}
-
-fn put_package(alloc: Global, page: &mut Page<'_>, package: &PackageTree) -> Written {
-    put_docs(alloc, page, package.docs)?;
-    put_head(alloc, page, package.head)?;
-    for item in &package.items {
+fn put_items(alloc: Global, page: &mut Page<'_>, items: &[TextItem]) -> Written {
+    for item in items {
         page.written.push_str(" {")?;
         put_item(alloc, page, item)?;
         page.written.push_str("}")?;
@@ -415,16 +426,30 @@ fn put_package(alloc: Global, page: &mut Page<'_>, package: &PackageTree) -> Wri
     Ok(())
 }
 
-/// The tree of a text: its package, and then the nested ones, each behind a `|`.
-pub(crate) fn shown(alloc: Global, text: &str, file: &FileTree) -> Result<String, AllocError> {
+// ---- packages and texts
+
+fn put_head(alloc: Global, page: &mut Page<'_>, docs: Span, head: PackageHead) -> Written {
+    put_docs(alloc, page, docs)?;
+    put_with(alloc, page, "", head.namespace, " ")?;
+    put_span(alloc, page, head.name)?;
+    put_option(alloc, page, " ", head.version, "")
+}
+
+/// The tree of a text: what names its package, or `-`, and its items; and then the nested packages, each behind a `|`.
+pub(crate) fn shown(alloc: Global, text: &str, tree: &TextTree) -> Result<String, AllocError> {
     let mut page = Page {
         text,
         written: String::new(alloc),
     };
-    put_package(alloc, &mut page, &file.main)?;
-    for package in &file.nested {
+    match tree.head {
+        Some(head) => put_head(alloc, &mut page, tree.docs, head)?,
+        None => page.written.push_str("-")?,
+    }
+    put_items(alloc, &mut page, &tree.items)?;
+    for nested in &tree.nested {
         page.written.push_str(" | ")?;
-        put_package(alloc, &mut page, package)?;
+        put_head(alloc, &mut page, nested.docs, nested.head)?;
+        put_items(alloc, &mut page, &nested.items)?;
     }
     Ok(page.written)
 }

@@ -1,7 +1,7 @@
 //! Parts of texts and their trees, by hand from the grammar of WIT text. A tree is written as `shown` does it: what belongs together stands in brackets.
 
 /// Texts and their trees.
-pub static FILES: [(&str, &str); 14] = [
+pub static FILES: [(&str, &str); 23] = [
     ("package a:b;", "a b"),
     ("package a:b@1.2.3;", "a b 1.2.3"),
     ("package %use:%b@0.1.0-rc.1+x;", "use b 0.1.0-rc.1+x"),
@@ -47,6 +47,33 @@ pub static FILES: [(&str, &str); 14] = [
     (
         "package a:b; interface i { /// f\n@since(version = 1.0.0) /// no\nf: func(/// no\n); }",
         "a b {interface i {#f# since 1.0.0 func f ()}}",
+    ),
+    // ---- texts without the name of their package
+    ("", "-"),
+    ("/// d\n", "-"),
+    ("/// i\ninterface i {}", "- {#i# interface i}"),
+    ("/// n\npackage a:b {} world w {}", "- {world w} | #n# a b"),
+    (
+        "package a:b@1.0.0 { interface i {} } package c:d {}",
+        "- | a b 1.0.0 {interface i} | c d",
+    ),
+    // ---- nested packages among items
+    (
+        "package a:b; interface i {} package c:d {} world w {} package e:f { use i; }",
+        "a b {interface i} {world w} | c d | e f {use i}",
+    ),
+    (
+        "package a:b; package c:d {} interface i {}",
+        "a b {interface i} | c d",
+    ),
+    // ---- names at the top
+    (
+        "use i; use a:b/i; use %use as %as; use a:b/i@1.2.3 as j;",
+        "- {use i} {use [a b i]} {use use=as} {use [a b i 1.2.3]=j}",
+    ),
+    (
+        "package a:b; use i as j; interface k { use j.{a}; }",
+        "a b {use i=j} {interface k {use j a}}",
     ),
 ];
 
@@ -183,7 +210,7 @@ pub static MEMBERS: [(&str, &str); 38] = [
 ];
 
 /// What a world has.
-pub static WORLD_MEMBERS: [(&str, &str); 17] = [
+pub static WORLD_MEMBERS: [(&str, &str); 22] = [
     ("import i;", "{import i}"),
     ("export %i;", "{export i}"),
     ("import a:b/i;", "{import [a b i]}"),
@@ -212,6 +239,18 @@ pub static WORLD_MEMBERS: [(&str, &str); 17] = [
     (
         "/// i\nimport i; /// e\nexport n: interface { /// f\nf: func(); }",
         "{#i# import i} {#e# export interface n {#f# func f ()}}",
+    ),
+    // ---- inclusions
+    ("include v;", "{include v}"),
+    ("include a:b/v@1.2.3;", "{include [a b v 1.2.3]}"),
+    ("include v with { a as b }", "{include v a=b}"),
+    (
+        "include a:b/v with { a as b, %use as c, };",
+        "{include [a b v] a=b use=c}",
+    ),
+    (
+        "/// v\n@since(version = 1.0.0) include v; include u with { a as b } import i;",
+        "{#v# since 1.0.0 include v} {include u a=b} {import i}",
     ),
 ];
 

@@ -164,7 +164,7 @@ block_cut (c ∷ d ∷ cs) inner k j rest e f w = at k w (block_cut cs) (block_c
     at (suc zero) v h g = let z = behind in absurd (omega arith)
     at (suc (suc i)) v h g = go (closes c d) refl (opens c d) refl inner e i v h g
 
-slash_no_line_feed : (d : ℕ) → (d == 47) ≡ true → (d == 10) ≡ false
+pub slash_no_line_feed : (d : ℕ) → (d == 47) ≡ true → (d == 10) ≡ false
 slash_no_line_feed d h = grind (arith, nat_tests)
 
 cut_skip : (x : List ℕ) (k j : ℕ) (rest : List ℕ) → front_in_text x ≡ Skipped rest → j + length rest ≡ length x → j ≤ k → front_in_text (take k x) ≡ Skipped (take (k - j) rest)

@@ -1,6 +1,6 @@
 -- The documentation in a gap, comment by comment.
 use Rattle.std.proofs.Common.{◌≡◌, refl, sym, ap, ◌∙◌, subst, ℕ, zero, suc, ◌+◌, ◌-◌, ◌<◌, ◌≤◌, ◌==◌, Bool, true, false, List, [], ◌∷◌, ◌++◌, Option, Some, None, length, take, drop, get_or, slice_range, if◌then◌else◌, arith, length-drop, append-nil, append_assoc}
-use Rattle.std.proofs.lemmas.{Bool.Decides.nat_tests, Bool.eqb-true, List.drop_all}
+use Rattle.std.proofs.lemmas.{Bool.eqb-true, List.drop_all}
 use Rattle.std.proofs.lemmas.Str.{IsCharBoundary-after_ascii}
 use Rattle.std.specs.{List.AllByRecursion, Str.IsCharBoundary, Str.IsUtf8}
 use Rattle.base_lemmas.proofs.Bools.{no-and, right_of}
@@ -10,7 +10,7 @@ use Rattle.text_tokens.specs.Comments.{after_block, begins_block, behind_one}
 use Rattle.text_tokens.specs.Documentation.{block_docs, docs_from, docs_in, first_line, line_docs, within}
 use Rattle.text_tokens.specs.Gathered.{AddsDocs, IsLine, written}
 use Rattle.text_tokens.proofs.CommentFacts.{drop-at, drop-two}
-use Rattle.text_tokens.proofs.CutTexts.{after_shorter, block_shorter}
+use Rattle.text_tokens.proofs.CutTexts.{after_shorter, block_shorter, slash_no_line_feed}
 use Rattle.text_tokens.proofs.DocLines.{one_line}
 use Rattle.text_tokens.proofs.DocSteps.{block_docs_lines, first_one, line_docs_lines, written-append}
 use Rattle.text_tokens.proofs.Fronts.{behind_at}
@@ -81,12 +81,9 @@ docs_at gap at a b h e f =
 docs_fewer : (n : ℕ) (gap : Text) (next : ℕ) → length (drop next gap) ≤ n → docs_from n (drop next gap) ≡ docs_in (drop next gap)
 docs_fewer n gap next h = docs_count n (length (drop next gap)) (drop next gap) h (omega arith)
 
-slash_no_feed : (d : ℕ) → (d == 47) ≡ true → (d == 10) ≡ false
-slash_no_feed d h = grind (arith, nat_tests)
-
 after_second : (c : ℕ) (cs : List ℕ) → begins_comment (c ∷ cs) ≡ true → after_comment cs ≡ after_comment (behind_one cs)
 after_second c [] h = refl
-after_second c (d ∷ ds) h = ap (λ b. if b then d ∷ ds else after_comment ds) (slash_no_feed d (right_of (c == 47) (d == 47) h))
+after_second c (d ∷ ds) h = ap (λ b. if b then d ∷ ds else after_comment ds) (slash_no_line_feed d (right_of (c == 47) (d == 47) h))
 
 first_is : (text : Text) → first_line text ≡ take (length text - length (after_comment text)) text
 first_is [] = refl

@@ -5,6 +5,7 @@ use Rattle.std.specs.{List.list_all, List.AllByRecursion, List.slice_split, List
 use Rattle.base_lemmas.proofs.Bools.{left_of, right_of}
 use Rattle.wit_model.specs.Text.{Text}
 use Rattle.text_tokens.specs.Gathered.{IsLine, written}
+use Rattle.std.proofs.lemmas.Bool.{not-true}
 
 -- whether a byte is a line feed
 abbrev is_feed : ℕ → Bool
@@ -16,10 +17,6 @@ one_line text = list_all (λ b. not (b == 10)) text
 
 abbrev parts : Text → List Text
 parts text = slice_split is_feed text
-
-not-true : (b : Bool) → not b ≡ true → b ≡ false
-not-true true h = absurd cc
-not-true false h = refl
 
 -- ---- where a line ends
 

@@ -96,20 +96,33 @@ ends_no_key keyword at_close = refl
 -- What a relation says of things is what a reader finds, where the test of a thing holds.
 module _ {X : Type 0} {Reads : List Token → X → List Token → Type 0} (close : Mark) (read : List Token → Reading X) (fits : X → Bool)
     (short : Shortens Reads) (shut : Shut (begins close) read) where
-  things-complete : ((ts rest : List Token) (x : X) → Reads ts x rest → fits x ≡ true → read ts ≡ Found x rest)
-      → (n : ℕ) {ts rest : List Token} {xs : List X} → Repeated Reads (Punctuation close) ts xs rest → length ts < n → list_all fits xs ≡ true
-      → things_in_front (begins close) read n ts ≡ Found xs (Punctuation close ∷ rest)
-  things-complete one n (closed {after}) l h = things_end (begins close) read n l (begins_itself close after)
-  things-complete one zero (again r m) l h = absurd (omega (arith, l))
-  things-complete one (suc n) (again {x} r m) l h =
-      let k = short _ _ _ r in
-      things_step (begins close) read n shut (one _ _ _ r (left_of _ _ h)) (things-complete one n m (omega (arith, k, l)) (right_of (fits x) _ h))
+  module _ (goes_on : List Token → Bool) (at_end : (ts : List Token) → goes_on (Punctuation close ∷ ts) ≡ false)
+      (begun : (ts rest : List Token) (x : X) → Reads ts x rest → goes_on ts ≡ false)
+      (one : (ts rest : List Token) (x : X) → Reads ts x rest → goes_on rest ≡ false → fits x ≡ true → read ts ≡ Found x rest) where
+    -- what stands in front of things goes on with none
+    begins_fresh : {ts rest : List Token} {xs : List X} → Repeated Reads (Punctuation close) ts xs rest → goes_on ts ≡ false
+    begins_fresh (closed {after}) = at_end after
+    begins_fresh (again r m) = begun _ _ _ r
+
+    things-complete : (n : ℕ) {ts rest : List Token} {xs : List X} → Repeated Reads (Punctuation close) ts xs rest → length ts < n → list_all fits xs ≡ true
+        → things_in_front (begins close) read n ts ≡ Found xs (Punctuation close ∷ rest)
+    things-complete n (closed {after}) l h = things_end (begins close) read n l (begins_itself close after)
+    things-complete zero (again r m) l h = absurd (omega (arith, l))
+    things-complete (suc n) (again {x} r m) l h =
+        let k = short _ _ _ r in
+        let more = things-complete n m (omega (arith, k, l)) (right_of (fits x) _ h) in
+        things_step (begins close) read n shut (one _ _ _ r (begins_fresh m) (left_of _ _ h)) more
+
+    -- Things up to a closing mark are found, where none begins as tokens do that go on with one.
+    pub fresh-complete : {ts rest : List Token} {xs : List X} → Repeated Reads (Punctuation close) ts xs rest → list_all fits xs ≡ true
+        → repeated read close ts ≡ Found xs rest
+    unfolding repeated until
+    fresh-complete {ts} r h = then_gives _ (things-complete (suc (length ts)) r (omega arith) h) refl
 
   -- Things up to a closing mark are found.
   pub repeated-complete : ((ts rest : List Token) (x : X) → Reads ts x rest → fits x ≡ true → read ts ≡ Found x rest)
       → {ts rest : List Token} {xs : List X} → Repeated Reads (Punctuation close) ts xs rest → list_all fits xs ≡ true → repeated read close ts ≡ Found xs rest
-  unfolding repeated until
-  repeated-complete one {ts} r h = then_gives _ (things-complete one (suc (length ts)) r (omega arith) h) refl
+  repeated-complete one = fresh-complete (λ ts. false) (λ ts. refl) (λ ts rest x r. refl) (λ ts rest x r e h. one ts rest x r h)
 
   module _ (other : (mark_number Comma == mark_number close) ≡ false)
       (one : (ts rest : List Token) (x : X) → Reads ts x rest → EndsAt close rest → fits x ≡ true → read ts ≡ Found x rest) where

@@ -50,7 +50,7 @@ unfolding then_read id_in_front
 used_name-shut = shut_at CloseBrace used_name_in_front (λ rest. refl)
 
 -- every element passes a test that always passes
-all_pass : {X : Type 0} (xs : List X) → list_all (λ (x : X). true) xs ≡ true
+pub all_pass : {X : Type 0} (xs : List X) → list_all (λ (x : X). true) xs ≡ true
 all_pass [] = refl
 all_pass (x ∷ xs) = all_pass xs
 

@@ -1,15 +1,16 @@
--- Each file has room enough for its types.
+-- Each text has room enough for its types.
 use Rattle.std.proofs.Common.{◌≡◌, refl, ℕ, ◌≤◌, ◌&&◌, Bool, true, List, [], ◌∷◌, arith, max, suc, Option, Some, None}
 use Rattle.std.specs.List.{list_all}
 use Rattle.std.proofs.lemmas.Bool.{le-leb}
 use Rattle.wit_model.specs.Rules.{passes}
-use Rattle.print_grammar.specs.Tree.{TypeTree, ParamTree, CaseTree, SignatureTree, ResourceMember, Declared, MemberTree, ExternTree, WorldMember, ItemTree, PackageTree, FileTree}
+use Rattle.print_grammar.specs.Tree.{TypeTree, ParamTree, CaseTree, SignatureTree, ResourceMember, Declared, MemberTree, ExternTree, WorldMember}
 use Rattle.print_grammar.specs.Tree.{ResourceMember.Constructor, ResourceMember.Method, ResourceMember.Static}
 use Rattle.print_grammar.specs.Tree.Declared.{RecordOf, VariantOf, FlagsOf, EnumOf, AliasOf, ResourceOf}
 use Rattle.print_grammar.specs.Tree.{ExternTree.Path, ExternTree.NamedFunction, ExternTree.NamedPath, ExternTree.NamedInterface}
-use Rattle.print_grammar.specs.Tree.{MemberTree.UseMember, MemberTree.TypeMember, MemberTree.FunctionMember, ItemTree.InterfaceItem, ItemTree.WorldItem}
+use Rattle.print_grammar.specs.Tree.{MemberTree.UseMember, MemberTree.TypeMember, MemberTree.FunctionMember}
 use Rattle.print_grammar.specs.Tree.WorldMember.{WorldUse, WorldType, WorldImport, WorldExport}
-use Rattle.text_trees.specs.Levels.{levels, fits_type, fits_param, fits_signature, fits_case, fits_resource_member, fits_declared, fits_member, fits_extern, fits_world_member, fits_item, fits_package, fits_file}
+use Rattle.text_trees.specs.TextTree.{NestedTree, TextItem, TextTree, WorldPart, TextItem.AnInterface, TextItem.AWorld, TextItem.AName, WorldPart.Has, WorldPart.Includes}
+use Rattle.text_trees.specs.Levels.{levels, fits_type, fits_param, fits_signature, fits_case, fits_resource_member, fits_declared, fits_member, fits_extern, fits_world_member, fits_part, fits_item, fits_nested, fits_text}
 
 -- a test passes from some number on
 record FromSome (test : ℕ → Bool) : Type 0 where
@@ -72,16 +73,21 @@ world_member-enough (WorldType prefix declared) = declared-enough declared
 world_member-enough (WorldImport prefix e) = extern-enough e
 world_member-enough (WorldExport prefix e) = extern-enough e
 
-item-enough : (item : ItemTree) → FromSome (λ room. fits_item room item)
-item-enough (InterfaceItem docs gates name members) = from_all member-enough members
-item-enough (WorldItem docs gates name members) = from_all world_member-enough members
+part-enough : (part : WorldPart) → FromSome (λ room. fits_part room part)
+part-enough (Has it) = world_member-enough it
+part-enough (Includes prefix path names) = at_once
 
-package-enough : (tree : PackageTree) → FromSome (λ room. fits_package room tree)
-package-enough tree = from_all item-enough tree.items
+item-enough : (item : TextItem) → FromSome (λ room. fits_item room item)
+item-enough (AnInterface docs gates name members) = from_all member-enough members
+item-enough (AWorld docs gates name parts) = from_all part-enough parts
+item-enough (AName path own) = at_once
 
-file-enough : (file : FileTree) → FromSome (λ room. fits_file room file)
-file-enough file = from_both (package-enough file.main) (from_all package-enough file.nested)
+nested-enough : (tree : NestedTree) → FromSome (λ room. fits_nested room tree)
+nested-enough tree = from_all item-enough tree.items
 
--- There is room for a file's types beside any other room.
-pub file-room : (room : ℕ) (file : FileTree) → (more : ℕ) × (room ≤ more) × (fits_file more file ≡ true)
-file-room room file = let e = file-enough file in (max room e.least, omega arith, e.passes_from (max room e.least) (omega arith))
+text-enough : (tree : TextTree) → FromSome (λ room. fits_text room tree)
+text-enough tree = from_both (from_all item-enough tree.items) (from_all nested-enough tree.nested)
+
+-- There is room for a text's types beside any other room.
+pub text-room : (room : ℕ) (tree : TextTree) → (more : ℕ) × (room ≤ more) × (fits_text more tree ≡ true)
+text-room room tree = let e = text-enough tree in (max room e.least, omega arith, e.passes_from (max room e.least) (omega arith))

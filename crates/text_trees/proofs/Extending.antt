@@ -3,13 +3,13 @@ use Rattle.std.proofs.Common.{ℕ, ◌≤◌, Bool, true, false, List, ◌∷◌
 use Rattle.wit_model.specs.Text.{Text}
 use Rattle.print_grammar.specs.{Keyword.Keyword, Token.Token, Token.Mark}
 use Rattle.print_grammar.specs.Token.Token.{Word, Escaped, Key}
-use Rattle.print_grammar.specs.Tree.{TypeTree, SignatureTree}
+use Rattle.print_grammar.specs.Tree.{TypeTree, SignatureTree, Prefix, PackageHead}
 use Rattle.text_trees.specs.Grammar.{Documentation}
 use Rattle.text_trees.specs.Reading.{Wanted.Shallower, Reading, Reading.Found, Reading.Refused, then_read, made, behind, begins, behind_mark, if_mark, begins_key, behind_key, if_key, if_id, things_in_front, until, repeated, listed_in_front, listed}
 use Rattle.text_trees.specs.ReadTypes.{payload_in_front, form_in_front, type_by, level_in_front, type_in_front, params_in_front, result_in_front, signature_in_front}
 use Rattle.text_trees.specs.ReadDeclared.{function_behind, field_in_front, case_in_front, resource_member_in_front, declared_in_front}
-use Rattle.text_trees.specs.ReadFiles.{member_in_front, extern_in_front, world_member_in_front, item_in_front, nested_in_front, file_in_front}
-use Rattle.text_trees.proofs.FilesFound.{item_by, nested_by, file_by}
+use Rattle.text_trees.specs.ReadFiles.{member_in_front, extern_in_front, world_member_behind, part_in_front, item_in_front, nested_behind, nested_in_front, piece_in_front, text_in_front}
+use Rattle.text_trees.proofs.FilesFound.{item_by, nested_by, text_by}
 
 -- ---- readings
 
@@ -206,25 +206,39 @@ module _ (docs : Documentation) (room more : ℕ) (h : room ≤ more) where
       then_read_on as_it_is (λ name. if_a_mark _ as_it_is (behind_a_mark _ (by_a_test _ (function-extends room more h _)
       (if_a_key _ (making _ (behind_a_mark _ (repeated_extends member-extends _))) as_it_is))))
 
-  world_member-extends : Extended (world_member_in_front docs room) (world_member_in_front docs more)
-  world_member-extends =
-      then_read_on as_it_is (λ pre. if_a_key _ (making _ extern-extends) (if_a_key _ (making _ extern-extends) (if_a_key _ as_it_is (making _ declared-extends))))
+  world_member_behind-extends : (pre : Prefix) → Extended (world_member_behind docs room pre) (world_member_behind docs more pre)
+  world_member_behind-extends pre =
+      if_a_key _ (making _ extern-extends) (if_a_key _ (making _ extern-extends) (if_a_key _ as_it_is (making _ declared-extends)))
+
+  part-extends : Extended (part_in_front docs room) (part_in_front docs more)
+  part-extends = then_read_on as_it_is (λ pre. if_a_key _ as_it_is (making _ (world_member_behind-extends pre)))
 
   item-extends : Extended (item_in_front docs room) (item_in_front docs more)
   item-extends =
       by_docs docs (item_by docs room) (item_by docs more) (λ lines.
-      then_read_on as_it_is (λ gates.
+      if_a_key _ as_it_is
+      (then_read_on as_it_is (λ gates.
       if_a_key _ (then_read_on as_it_is (λ name. making _ (behind_a_mark _ (repeated_extends member-extends _))))
-      (if_a_key _ (then_read_on as_it_is (λ name. making _ (behind_a_mark _ (repeated_extends world_member-extends _)))) as_it_is)))
+      (if_a_key _ (then_read_on as_it_is (λ name. making _ (behind_a_mark _ (repeated_extends part-extends _)))) as_it_is))))
+
+  nested_behind-extends : (lines : List Text) (head : PackageHead) → Extended (nested_behind docs room lines head) (nested_behind docs more lines head)
+  nested_behind-extends lines head = behind_a_mark _ (making _ (repeated_extends item-extends _))
 
   nested-extends : Extended (nested_in_front docs room) (nested_in_front docs more)
   nested-extends =
-      by_docs docs (nested_by docs room) (nested_by docs more) (λ lines.
-      behind_a_key _ (then_read_on as_it_is (λ head. behind_a_mark _ (making _ (repeated_extends item-extends _)))))
+      by_docs docs (nested_by docs room) (nested_by docs more) (λ lines. behind_a_key _ (then_read_on as_it_is (nested_behind-extends lines)))
 
-  -- With more room the same files are found, and the same is refused but what had too many levels.
-  pub file-extends : Extended (file_in_front docs room) (file_in_front docs more)
-  file-extends =
-      by_docs docs (file_by docs room) (file_by docs more) (λ lines.
-      behind_a_key _ (then_read_on as_it_is (λ head. behind_a_mark _ (then_read_on (until_extends item-extends _) (λ items.
-      making _ (until_extends nested-extends _))))))
+  piece-extends : Extended (piece_in_front docs room) (piece_in_front docs more)
+  piece-extends = by_a_test (begins_key Keyword.Package) (making _ nested-extends) (making _ item-extends)
+
+  text_by-extends : (lines : List Text) → Extended (text_by docs room lines) (text_by docs more lines)
+  text_by-extends lines =
+      if_a_key _ (then_read_on as_it_is (λ head.
+      if_a_mark _ (making _ (until_extends piece-extends _))
+      (then_read_on (nested_behind-extends lines head) (λ it. making _ (until_extends piece-extends _)))))
+      (making _ (until_extends piece-extends _))
+
+  -- With more room the same texts are found, and the same is refused but what had too many levels.
+  pub text-extends : Extended (text_in_front docs room) (text_in_front docs more)
+  unfolding if_key
+  text-extends = by_docs docs (text_by docs room) (text_by docs more) text_by-extends

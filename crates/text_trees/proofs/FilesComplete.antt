@@ -1,50 +1,103 @@
--- What interfaces, worlds, packages and files have by the grammar is found.
-use Rattle.std.proofs.Common.{◌≡◌, refl, sym, ◌∙◌, subst, ℕ, ◌<◌, true, false, List, [], ◌∷◌, length, arith, zero, suc}
+-- What interfaces and worlds have by the grammar, and items, are found.
+use Rattle.std.proofs.Common.{◌≡◌, refl, ◌∙◌, ℕ, Bool, true, false, List, ◌∷◌}
 use Rattle.std.specs.List.{list_all}
-use Rattle.base_lemmas.proofs.Bools.{left_of, right_of}
-use Rattle.print_grammar.specs.{Keyword.Keyword, Token.Token}
-use Rattle.print_grammar.specs.Token.Mark.{CloseBrace, At}
-use Rattle.print_grammar.specs.Tree.{Prefix, SignatureTree, Declared, PathTree, UsedName, MemberTree, MemberTree.UseMember, MemberTree.TypeMember, ExternTree, WorldMember, WorldMember.WorldUse, WorldMember.WorldType, ItemTree, PackageHead, PackageTree, FileTree}
-use Rattle.print_grammar.specs.Grammar.{ReadsUse, ReadsSignature, ReadsHead}
-use Rattle.text_trees.specs.Grammar.{Documentation, ReadsDeclared, ReadsMember, ReadsExtern, ReadsWorldMember, ReadsItem, ReadsItems, ReadsNested, ReadsAllNested, ReadsFile}
+use Rattle.print_grammar.specs.{Keyword.Keyword, Token.Mark, Token.Token}
+use Rattle.print_grammar.specs.Token.Mark.{CloseBrace, Semi, At}
+use Rattle.print_grammar.specs.Token.Token.{Punctuation}
+use Rattle.print_grammar.specs.Tree.{Gates, Prefix, SignatureTree, Declared, PathTree, UsedName, MemberTree, MemberTree.UseMember, MemberTree.TypeMember, ExternTree, WorldMember}
+use Rattle.print_grammar.specs.Tree.WorldMember.{WorldUse, WorldType, WorldImport, WorldExport}
+use Rattle.text_trees.specs.TextTree.{TextItem, WorldPart, WorldPart.Has, WorldPart.Includes}
+use Rattle.print_grammar.specs.Grammar.{CommaList, Repeated, ReadsUse, ReadsSignature}
+use Rattle.text_trees.specs.Grammar.{Documentation, Marks, ReadsMarks, ReadsGates, ReadsPrefix, ReadsDeclared, ReadsMember, ReadsExtern, ReadsWorldMember, ReadsOtherName, ReadsInclusion, ReadsPart, ReadsItem}
 use Rattle.print_grammar.specs.Grammar.{ReadsUse.use_names, ReadsSignature.func, ReadsSignature.async_func, ReadsPath.local, ReadsPath.full}
-use Rattle.text_trees.specs.Grammar.ReadsDeclared.{record_}
+use Rattle.text_trees.specs.Grammar.ReadsMarks.{no_more, since, unstable, deprecated, external_id}
+use Rattle.text_trees.specs.Grammar.{ReadsGates.gates, ReadsPrefix.prefix, ReadsDeclared.record_}
 use Rattle.text_trees.specs.Grammar.ReadsMember.{member_use, member_type, member_function}
 use Rattle.text_trees.specs.Grammar.ReadsExtern.{extern_path, extern_function, extern_named_path, extern_interface}
 use Rattle.text_trees.specs.Grammar.ReadsWorldMember.{world_use, world_type, world_import, world_export}
-use Rattle.print_grammar.specs.Grammar.{ReadsHead.head}
-use Rattle.text_trees.specs.Grammar.{ReadsItem.interface_item, ReadsItem.world_item, ReadsItems.no_items, ReadsItems.next_item}
-use Rattle.text_trees.specs.Grammar.{ReadsNested.nested_package, ReadsAllNested.nested_end, ReadsAllNested.next_nested, ReadsFile.file}
-use Rattle.text_trees.specs.Reading.{Reading.Found, then_read, made, begins, behind_mark, if_mark, behind_key, if_key, if_id, id_in_front, things_in_front, until}
+use Rattle.text_trees.specs.Grammar.{ReadsOtherName.other_name, ReadsPart.has, ReadsPart.includes}
+use Rattle.text_trees.specs.Grammar.ReadsInclusion.{all_of, all_with, all_with_end}
+use Rattle.text_trees.specs.Grammar.ReadsItem.{interface_item, world_item, name_item, other_name_item}
+use Rattle.text_trees.specs.Reading.{Reading.Found, then_read, made, begins, begins_key, behind_mark, if_mark, behind_key, if_key, if_id, id_in_front, repeated, listed}
 use Rattle.text_trees.specs.ReadTypes.{begins_signature}
 use Rattle.text_trees.specs.ReadDeclared.{declared_in_front, marks_from, marks_in_front}
-use Rattle.text_trees.specs.ReadFiles.{member_behind, member_in_front, extern_in_front, world_member_behind, world_member_in_front, item_in_front, head_in_front, nested_in_front, is_end, ends_items, file_in_front}
-use Rattle.text_trees.specs.Levels.{fits_member, fits_extern, fits_world_member, fits_item, fits_package, fits_file}
-use Rattle.text_trees.proofs.Fronts.{begins_key_is}
-use Rattle.text_trees.proofs.Lengths.{member-shortens, world_member-shortens, item-shortens, nested-shortens}
-use Rattle.text_trees.proofs.Complete.{then_gives, made_gives, id_gives, if_id_gives, id_no_key, id_no_mark, is_found, Shut, shut_at, things_end, things_step, repeated-complete}
+use Rattle.text_trees.specs.ReadFiles.{member_behind, member_in_front, extern_in_front, world_member_behind, world_member_in_front, other_name_in_front, inclusion_behind, part_behind, part_in_front, item_in_front}
+use Rattle.text_trees.specs.Levels.{fits_member, fits_extern, fits_world_member, fits_part, fits_item}
+use Rattle.text_trees.proofs.Lengths.{member-shortens, other_name-shortens, part-shortens}
+use Rattle.text_trees.proofs.Complete.{then_gives, made_gives, id_gives, if_id_gives, id_no_key, id_no_mark, Shut, shut_at, listed-complete, repeated-complete, fresh-complete}
 use Rattle.text_trees.proofs.MarksComplete.{gates-complete, prefix-complete}
-use Rattle.text_trees.proofs.DeclaredComplete.{at_version-complete, full_path-complete, use-complete, function-complete, declared-complete}
+use Rattle.text_trees.proofs.DeclaredComplete.{full_path-complete, path-complete, all_pass, use-complete, function-complete, declared-complete}
 
--- no declared type and no use begins with `@`
-use_no_at : {ts rest : List Token} {path : PathTree} {names : List UsedName} → ReadsUse ts path names rest → begins At ts ≡ false
-use_no_at (use_names p l) = refl
+-- ---- what things begin with
 
-declared_no_at : {docs : Documentation} {ts rest : List Token} {declared : Declared} → ReadsDeclared docs ts declared rest → begins At ts ≡ false
-declared_no_at (record_ i l) = refl
-declared_no_at _ = refl
+-- no declared type and no use begins with a mark
+use_no_mark : (mark : Mark) {ts rest : List Token} {path : PathTree} {names : List UsedName} → ReadsUse ts path names rest → begins mark ts ≡ false
+use_no_mark mark (use_names p l) = refl
+
+declared_no_mark : (mark : Mark) {docs : Documentation} {ts rest : List Token} {declared : Declared} → ReadsDeclared docs ts declared rest
+    → begins mark ts ≡ false
+declared_no_mark mark (record_ i l) = refl
+declared_no_mark mark _ = refl
+
+-- nor with `include`
+use_no_include : {ts rest : List Token} {path : PathTree} {names : List UsedName} → ReadsUse ts path names rest → begins_key Keyword.Include ts ≡ false
+use_no_include (use_names p l) = refl
+
+declared_no_include : {docs : Documentation} {ts rest : List Token} {declared : Declared} → ReadsDeclared docs ts declared rest
+    → begins_key Keyword.Include ts ≡ false
+declared_no_include (record_ i l) = refl
+declared_no_include _ = refl
 
 signature_begins : {ts rest : List Token} {signature : SignatureTree} → ReadsSignature ts signature rest → begins_signature ts ≡ true
 signature_begins (func p r) = refl
 signature_begins (async_func p r) = refl
 
-head-complete : {ts rest : List Token} {head : PackageHead} → ReadsHead ts head rest → begins At rest ≡ false → head_in_front ts ≡ Found head rest
-unfolding then_read behind_mark made
-head-complete (head i j v) h = rw (id_gives _ i, id_gives _ j, at_version-complete v h) refl
+-- attributes begin with `@`, or with what follows them
+marks_as : (test : List Token → Bool) (other : (ts : List Token) → test (Punctuation At ∷ ts) ≡ false) {ts rest : List Token} {marks all : Marks}
+    → ReadsMarks marks ts all rest → test rest ≡ false → test ts ≡ false
+marks_as test other no_more h = h
+marks_as test other (since e a b r m) h = other _
+marks_as test other (unstable e f i a b m) h = other _
+marks_as test other (deprecated e a r m) h = other _
+marks_as test other (external_id e a m) h = other _
 
-nested_ends_items : {docs : Documentation} {ts : List Token} {trees : List PackageTree} → ReadsAllNested docs ts trees → ends_items ts ≡ true
-nested_ends_items nested_end = refl
-nested_ends_items (next_nested (nested_package h l) m) = refl
+pub gates_no_key : (keyword : Keyword) {ts rest : List Token} {given : Gates} → ReadsGates ts given rest → begins_key keyword rest ≡ false
+    → begins_key keyword ts ≡ false
+gates_no_key keyword (gates marks m n e) h = marks_as (begins_key keyword) (λ ts. refl) m h
+
+prefix_no_semi : {docs : Documentation} {ts rest : List Token} {pre : Prefix} → ReadsPrefix docs ts pre rest → begins Semi rest ≡ false → begins Semi ts ≡ false
+prefix_no_semi (prefix marks m e) h = marks_as (begins Semi) (λ ts. refl) m h
+
+-- nothing that a world of a text has begins with `;`
+part_no_semi : {docs : Documentation} (ts rest : List Token) (part : WorldPart) → ReadsPart docs ts part rest → begins Semi ts ≡ false
+part_no_semi _ _ _ (has (world_use p u)) = prefix_no_semi p (use_no_mark Semi u)
+part_no_semi _ _ _ (has (world_type p d)) = prefix_no_semi p (declared_no_mark Semi d)
+part_no_semi _ _ _ (has (world_import p e)) = prefix_no_semi p refl
+part_no_semi _ _ _ (has (world_export p e)) = prefix_no_semi p refl
+part_no_semi _ _ _ (includes p r) = prefix_no_semi p refl
+
+-- ---- inclusions
+
+pub other_name-complete : (ts rest : List Token) (name : UsedName) → ReadsOtherName ts name rest → other_name_in_front ts ≡ Found name rest
+unfolding then_read behind_key made
+other_name-complete _ _ _ (other_name i j) = rw (id_gives _ i, id_gives _ j) refl
+
+other_name-shut : Shut (begins CloseBrace) other_name_in_front
+unfolding then_read id_in_front
+other_name-shut = shut_at CloseBrace other_name_in_front (λ rest. refl)
+
+others-complete : {ts rest : List Token} {names : List UsedName} → CommaList ReadsOtherName (Punctuation CloseBrace) ts names rest
+    → listed other_name_in_front CloseBrace ts ≡ Found names rest
+others-complete {names = names} l =
+    listed-complete CloseBrace other_name_in_front (λ name. true) other_name-shortens other_name-shut refl
+    (λ ts rest name r s h. other_name-complete ts rest name r) l (all_pass names)
+
+inclusion-complete : (pre : Prefix) {ts rest : List Token} {path : PathTree} {names : List UsedName} → ReadsInclusion ts path names rest
+    → begins Semi rest ≡ false → inclusion_behind pre ts ≡ Found (Includes pre path names) rest
+unfolding then_read behind_mark if_mark if_key
+inclusion-complete pre (all_of p) h = rw (path-complete p refl refl) refl
+inclusion-complete pre (all_with p l) h = rw (path-complete p refl refl, others-complete l, h) refl
+inclusion-complete pre (all_with_end p l) h = rw (path-complete p refl refl, others-complete l) refl
 
 module _ (docs : Documentation) (room : ℕ) where
   -- ---- interfaces
@@ -63,8 +116,10 @@ module _ (docs : Documentation) (room : ℕ) where
 
   pub member-complete : (ts rest : List Token) (member : MemberTree) → ReadsMember docs ts member rest → fits_member room member ≡ true → member_in_front docs room ts ≡ Found member rest
   unfolding behind_mark
-  member-complete _ _ _ (member_use {pre} p u) h = then_gives _ (prefix-complete p (use_no_at u)) (member_use_behind pre u)
-  member-complete _ _ _ (member_type {pre} p d) h = then_gives _ (prefix-complete p (declared_no_at d)) (member_type_behind pre d ∙ made_gives (TypeMember pre) (declared-complete docs room d h))
+  member-complete _ _ _ (member_use {pre} p u) h = then_gives _ (prefix-complete p (use_no_mark At u)) (member_use_behind pre u)
+  member-complete _ _ _ (member_type {pre} p d) h =
+      then_gives _ (prefix-complete p (declared_no_mark At d))
+      (member_type_behind pre d ∙ made_gives (TypeMember pre) (declared-complete docs room d h))
   member-complete _ _ _ (member_function p i s) h =
       then_gives _ (prefix-complete p (id_no_mark At i)) (if_id_gives _ _ _ i ∙ function-complete room _ s h)
 
@@ -103,74 +158,59 @@ module _ (docs : Documentation) (room : ℕ) where
   pub world_member-complete : (ts rest : List Token) (member : WorldMember) → ReadsWorldMember docs ts member rest → fits_world_member room member ≡ true
       → world_member_in_front docs room ts ≡ Found member rest
   unfolding if_key
-  world_member-complete _ _ _ (world_use {pre} p u) h = then_gives _ (prefix-complete p (use_no_at u)) (world_use_behind pre u)
+  world_member-complete _ _ _ (world_use {pre} p u) h = then_gives _ (prefix-complete p (use_no_mark At u)) (world_use_behind pre u)
   world_member-complete _ _ _ (world_type {pre} p d) h =
-      then_gives _ (prefix-complete p (declared_no_at d)) (world_type_behind pre d ∙ made_gives (WorldType pre) (declared-complete docs room d h))
+      then_gives _ (prefix-complete p (declared_no_mark At d)) (world_type_behind pre d ∙ made_gives (WorldType pre) (declared-complete docs room d h))
   world_member-complete _ _ _ (world_import {pre} p e) h =
-      then_gives _ (prefix-complete p refl) (made_gives (WorldMember.WorldImport pre) (extern-complete _ _ _ e h))
+      then_gives _ (prefix-complete p refl) (made_gives (WorldImport pre) (extern-complete _ _ _ e h))
   world_member-complete _ _ _ (world_export {pre} p e) h =
-      then_gives _ (prefix-complete p refl) (made_gives (WorldMember.WorldExport pre) (extern-complete _ _ _ e h))
+      then_gives _ (prefix-complete p refl) (made_gives (WorldExport pre) (extern-complete _ _ _ e h))
 
-  world_member-shut : Shut (begins CloseBrace) (world_member_in_front docs room)
+  -- what a world has, behind what stands in front of it, is no inclusion
+  part_has : (pre : Prefix) (ts : List Token) → begins_key Keyword.Include ts ≡ false
+      → part_behind docs room pre ts ≡ made Has (world_member_behind docs room pre ts)
+  unfolding if_key
+  part_has pre ts h = rw h refl
+
+  pub part-complete : (ts rest : List Token) (part : WorldPart) → ReadsPart docs ts part rest → begins Semi rest ≡ false → fits_part room part ≡ true
+      → part_in_front docs room ts ≡ Found part rest
+  unfolding if_key
+  part-complete _ _ _ (has (world_use {between} {pre} p u)) s h =
+      then_gives _ (prefix-complete p (use_no_mark At u)) (part_has pre between (use_no_include u) ∙ made_gives Has (world_use_behind pre u))
+  part-complete _ _ _ (has (world_type {between} {pre} p d)) s h =
+      then_gives _ (prefix-complete p (declared_no_mark At d))
+      (part_has pre between (declared_no_include d) ∙ made_gives Has (world_type_behind pre d ∙ made_gives (WorldType pre) (declared-complete docs room d h)))
+  part-complete _ _ _ (has (world_import {pre} p e)) s h =
+      then_gives _ (prefix-complete p refl) (made_gives Has (made_gives (WorldImport pre) (extern-complete _ _ _ e h)))
+  part-complete _ _ _ (has (world_export {pre} p e)) s h =
+      then_gives _ (prefix-complete p refl) (made_gives Has (made_gives (WorldExport pre) (extern-complete _ _ _ e h)))
+  part-complete _ _ _ (includes {pre} p r) s h = then_gives _ (prefix-complete p refl) (inclusion-complete pre r s)
+
+  part-shut : Shut (begins CloseBrace) (part_in_front docs room)
   unfolding then_read id_in_front if_id if_key made marks_in_front marks_from
-  world_member-shut = shut_at CloseBrace (world_member_in_front docs room) (λ rest. refl)
+  part-shut = shut_at CloseBrace (part_in_front docs room) (λ rest. refl)
+
+  parts-complete : {ts rest : List Token} {parts : List WorldPart} → Repeated (ReadsPart docs) (Punctuation CloseBrace) ts parts rest
+      → list_all (fits_part room) parts ≡ true → repeated (part_in_front docs room) CloseBrace ts ≡ Found parts rest
+  parts-complete =
+      fresh-complete CloseBrace (part_in_front docs room) (fits_part room) part-shortens part-shut (begins Semi) (λ ts. refl) part_no_semi part-complete
 
   -- ---- packages
 
-  pub item-complete : (ts rest : List Token) (item : ItemTree) → ReadsItem docs ts item rest → fits_item room item ≡ true → item_in_front docs room ts ≡ Found item rest
+  pub item-complete : (ts rest : List Token) (item : TextItem) → ReadsItem docs ts item rest → fits_item room item ≡ true
+      → item_in_front docs room ts ≡ Found item rest
   unfolding then_read behind_mark if_key made
   item-complete _ _ _ (interface_item g i l) h =
-      rw (gates-complete g refl, id_gives _ i, repeated-complete CloseBrace (member_in_front docs room) (fits_member room) member-shortens member-shut member-complete l h) refl
-  item-complete _ _ _ (world_item g i l) h =
       rw (
+        gates_no_key Keyword.Use g refl,
         gates-complete g refl,
         id_gives _ i,
-        repeated-complete CloseBrace (world_member_in_front docs room) (fits_world_member room) world_member-shortens world_member-shut world_member-complete l h,
+        repeated-complete CloseBrace (member_in_front docs room) (fits_member room) member-shortens member-shut member-complete l h,
       ) refl
+  item-complete _ _ _ (world_item g i l) h = rw (gates_no_key Keyword.Use g refl, gates-complete g refl, id_gives _ i, parts-complete l h) refl
+  item-complete _ _ _ (name_item p) h = rw (path-complete p refl refl) refl
+  item-complete _ _ _ (other_name_item p i) h = rw (path-complete p refl refl, id_gives _ i) refl
 
-  item-shut : Shut (begins CloseBrace) (item_in_front docs room)
+  pub item-shut : Shut (begins CloseBrace) (item_in_front docs room)
   unfolding then_read if_key marks_in_front marks_from
   item-shut = shut_at CloseBrace (item_in_front docs room) (λ rest. refl)
-
-  items-shut : Shut ends_items (item_in_front docs room)
-  unfolding then_read if_key marks_in_front marks_from
-  items-shut [] h = refl
-  items-shut (t ∷ ts) h = subst (λ us. is_found (item_in_front docs room us) ≡ false) (sym (begins_key_is Keyword.Package (t ∷ ts) h)) refl
-
-  items-complete : (n : ℕ) {ts rest : List Token} {items : List ItemTree} → ReadsItems docs ts items rest → ends_items rest ≡ true → length ts < n
-      → list_all (fits_item room) items ≡ true → things_in_front ends_items (item_in_front docs room) n ts ≡ Found items rest
-  items-complete n no_items e l h = things_end ends_items (item_in_front docs room) n l e
-  items-complete zero (next_item r m) e l h = absurd (omega (arith, l))
-  items-complete (suc n) (next_item {item} r m) e l h =
-      let k = item-shortens _ _ _ r in
-      things_step ends_items (item_in_front docs room) n items-shut (item-complete _ _ _ r (left_of _ _ h)) (items-complete n m e (omega (arith, k, l)) (right_of (fits_item room item) _ h))
-
-  pub nested-complete : (ts rest : List Token) (tree : PackageTree) → ReadsNested docs ts tree rest → fits_package room tree ≡ true → nested_in_front docs room ts ≡ Found tree rest
-  unfolding then_read behind_mark behind_key made
-  nested-complete _ _ _ (nested_package p l) h =
-      rw (head-complete p refl, repeated-complete CloseBrace (item_in_front docs room) (fits_item room) item-shortens item-shut item-complete l h) refl
-
-  nested-shut : Shut is_end (nested_in_front docs room)
-  unfolding behind_key
-  nested-shut [] h = refl
-  nested-shut (t ∷ ts) h = absurd (cc h)
-
-  all_nested-complete : (n : ℕ) {ts : List Token} {trees : List PackageTree} → ReadsAllNested docs ts trees → length ts < n → list_all (fits_package room) trees ≡ true
-      → things_in_front is_end (nested_in_front docs room) n ts ≡ Found trees []
-  all_nested-complete n nested_end l h = things_end is_end (nested_in_front docs room) n l refl
-  all_nested-complete zero (next_nested r m) l h = absurd (omega (arith, l))
-  all_nested-complete (suc n) (next_nested {tree} r m) l h =
-      let k = nested-shortens _ _ _ r in
-      things_step is_end (nested_in_front docs room) n nested-shut (nested-complete _ _ _ r (left_of _ _ h)) (all_nested-complete n m (omega (arith, k, l)) (right_of (fits_package room tree) _ h))
-
-  -- ---- files
-
-  -- A file whose types have no more levels than there is room for is found, and nothing behind it.
-  pub file-complete : {ts : List Token} {tree : FileTree} → ReadsFile docs ts tree → fits_file room tree ≡ true → file_in_front docs room ts ≡ Found tree []
-  unfolding then_read behind_mark behind_key made until
-  file-complete (file {middle} {after} {items} p l n) h =
-      rw (
-        head-complete p refl,
-        items-complete (suc (length middle)) l (nested_ends_items n) (omega arith) (left_of _ _ h),
-        all_nested-complete (suc (length after)) n (omega arith) (right_of (list_all (fits_item room) items) _ h),
-      ) refl

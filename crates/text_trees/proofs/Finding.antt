@@ -178,6 +178,17 @@ module _ {X : Type 0} {Q : List Token → X → List Token → Type 0} where
       go (Quoted characters ∷ ts) = (f characters).at ts
       go _ = refuses
 
+-- an id, and nothing read on
+pub id_alone : {Q : List Token → Text → List Token → Type 0} → ((t : Token) (label : Text) → IsId t label → (rest : List Token) → Q (t ∷ rest) label rest)
+    → Sound Q id_in_front
+unfolding id_in_front
+id_alone {Q} f = record { at = go }
+  where
+    go : (ts : List Token) → Finds (id_in_front ts) (Q ts)
+    go (Word label ∷ ts) = finds (f (Word label) label plain ts)
+    go (Escaped label ∷ ts) = finds (f (Escaped label) label with_percent ts)
+    go _ = refuses
+
 -- ---- lists
 
 -- Things are found one after the other, by a relation that holds at the end and in front of a further thing.

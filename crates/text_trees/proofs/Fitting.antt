@@ -1,21 +1,21 @@
 -- No type that a reader finds has more levels than there is room for.
-use Rattle.std.proofs.Common.{◌≡◌, refl, ℕ, ◌≤◌, Bool, true, List, [], ◌∷◌, arith, zero, suc}
-use Rattle.std.specs.List.{list_all}
+use Rattle.std.proofs.Common.{◌≡◌, refl, ℕ, ◌≤◌, ◌&&◌, Bool, true, List, [], ◌∷◌, arith, zero, suc}
+use Rattle.std.specs.List.{filter_map, list_all}
 use Rattle.std.proofs.lemmas.Bool.{and_from, le-leb, leb-true}
 use Rattle.base_lemmas.proofs.Bools.{left_of, right_of}
-use Rattle.wit_model.specs.{Rules.passes}
+use Rattle.wit_model.specs.{Rules.passes, Text.Text}
 use Rattle.print_grammar.specs.{Keyword.Keyword, Token.Token, Token.Mark, Grammar.CommaList, Grammar.Repeated}
 use Rattle.print_grammar.specs.Grammar.CommaList.{last, last_with_comma, next}
 use Rattle.print_grammar.specs.Grammar.Repeated.{closed, again}
 use Rattle.print_grammar.specs.Token.Token.{Word, Escaped, Key}
-use Rattle.print_grammar.specs.Tree.{TypeTree, SignatureTree, PathTree, UsedName}
-use Rattle.text_trees.specs.Reading.{Reading, until, repeated, listed}
+use Rattle.print_grammar.specs.Tree.{TypeTree, SignatureTree, Prefix, PackageHead, PathTree, UsedName}
+use Rattle.text_trees.specs.Reading.{Reading, begins_key, if_key, until, repeated, listed}
 use Rattle.text_trees.specs.ReadTypes.{tuple_types, payload_in_front, result_parts_in_front, form_in_front, type_by, level_in_front, type_in_front, param_in_front, params_in_front, result_in_front, signature_in_front}
 use Rattle.text_trees.specs.ReadDeclared.{prefix_in_front, gates_in_front, full_path_behind, path_behind, path_in_front, use_behind, used_name_in_front, field_in_front, case_in_front, label_in_front, function_behind, resource_member_in_front, declared_in_front}
-use Rattle.text_trees.specs.ReadFiles.{member_in_front, extern_in_front, world_member_in_front, item_in_front, head_in_front, nested_in_front, file_in_front}
-use Rattle.text_trees.specs.Levels.{levels, deepest, fits_type, fits_param, fits_signature, fits_field, fits_case, fits_resource_member, fits_declared, fits_member, fits_extern, fits_world_member, fits_item, fits_package, fits_file}
+use Rattle.text_trees.specs.ReadFiles.{member_in_front, extern_in_front, world_member_behind, world_member_in_front, other_name_in_front, part_in_front, item_in_front, head_in_front, nested_behind, nested_in_front, Piece, Piece.AnItem, Piece.ANested, item_of_piece, nested_of_piece, piece_in_front, text_in_front}
+use Rattle.text_trees.specs.Levels.{levels, deepest, fits_type, fits_param, fits_signature, fits_field, fits_case, fits_resource_member, fits_declared, fits_member, fits_extern, fits_world_member, fits_part, fits_item, fits_nested, fits_text}
 use Rattle.text_trees.specs.Grammar.{Documentation}
-use Rattle.text_trees.proofs.FilesFound.{item_by, nested_by, file_by}
+use Rattle.text_trees.proofs.FilesFound.{item_by, nested_by, text_by}
 use Rattle.text_trees.proofs.Finding.{Sound, Finds, finds, refuses, found_sound, refused_sound, then_sound, made_sound, sound_as, any_docs_sound, mark_sound, if_mark_sound, key_sound, if_key_sound, either_sound, id_sound, if_id_sound, digits_sound, until_sound, repeated_sound, listed_sound}
 
 -- what is found passes a test
@@ -187,30 +187,77 @@ module _ (docs : Documentation) (room : ℕ) where
       either_sound _ (then_sound (anything (full_path_behind name second)) (λ path. mark_sound _ (found_sound (λ rest ts u. refl))))
       (then_sound (anything (path_behind second)) (λ path. mark_sound _ (found_sound (λ rest ts u. refl))))))))))
 
+  world_member_behind-fits : (pre : Prefix) → Sound (Passes (fits_world_member room)) (world_member_behind docs room pre)
+  world_member_behind-fits pre =
+      if_key_sound _ (made_sound _ (sound_as extern-fits (λ us rest e h. h)))
+      (if_key_sound _ (made_sound _ (sound_as extern-fits (λ us rest e h. h)))
+      (if_key_sound _ (use-fits room {test = fits_world_member room} _ (λ path names. refl)) (made_sound _ (sound_as declared-fits (λ us rest declared h. h)))))
+
   pub world_member-fits : Sound (Passes (fits_world_member room)) (world_member_in_front docs room)
-  world_member-fits =
+  world_member-fits = then_sound (anything (prefix_in_front docs)) (λ pre. sound_as (world_member_behind-fits pre) (λ us rest it h ts u. h))
+
+  pub part-fits : Sound (Passes (fits_part room)) (part_in_front docs room)
+  part-fits =
       then_sound (anything (prefix_in_front docs)) (λ pre.
-      if_key_sound _ (made_sound _ (sound_as extern-fits (λ us rest e h ts u. h)))
-      (if_key_sound _ (made_sound _ (sound_as extern-fits (λ us rest e h ts u. h)))
-      (if_key_sound _ (sound_as (use-fits room {test = fits_world_member room} _ (λ path names. refl)) (λ us rest member h ts u. h))
-      (made_sound _ (sound_as declared-fits (λ us rest declared h ts u. h))))))
+      if_key_sound _ (then_sound (anything path_in_front) (λ path. if_key_sound _ (mark_sound _ (then_sound (anything (listed other_name_in_front _)) (λ names.
+      if_mark_sound _ (found_sound (λ rest vs k us h ts u. refl)) (found_sound (λ rest vs k us h ts u. refl)))))
+      (mark_sound _ (found_sound (λ rest us h ts u. refl)))))
+      (made_sound _ (sound_as (world_member_behind-fits pre) (λ us rest it h ts u. h))))
 
   pub item-fits : Sound (Passes (fits_item room)) (item_in_front docs room)
   item-fits =
       any_docs_sound docs (item_by docs room) (λ lines.
-      then_sound (anything gates_in_front) (λ gates.
+      if_key_sound _ (then_sound (anything path_in_front) (λ path. if_key_sound _ (id_sound (λ t own i. mark_sound _ (found_sound (λ rest ts u. refl))))
+      (mark_sound _ (found_sound (λ rest ts u. refl)))))
+      (then_sound (anything gates_in_front) (λ gates.
       if_key_sound _ (id_sound (λ t name i. made_sound _ (mark_sound _ (sound_as (repeated-fit (fits_member room) member-fits _) (λ us rest xs h ts u. h)))))
-      (if_key_sound _ (id_sound (λ t name i. made_sound _ (mark_sound _ (sound_as (repeated-fit (fits_world_member room) world_member-fits _) (λ us rest xs h ts u. h)))))
-      refused_sound)))
+      (if_key_sound _ (id_sound (λ t name i. made_sound _ (mark_sound _ (sound_as (repeated-fit (fits_part room) part-fits _) (λ us rest xs h ts u. h)))))
+      refused_sound))))
 
-  pub nested-fits : Sound (Passes (fits_package room)) (nested_in_front docs room)
+  nested_behind-fits : (lines : List Text) (head : PackageHead) → Sound (Passes (fits_nested room)) (nested_behind docs room lines head)
+  nested_behind-fits lines head = mark_sound _ (made_sound _ (sound_as (repeated-fit (fits_item room) item-fits _) (λ us rest items h. h)))
+
+  pub nested-fits : Sound (Passes (fits_nested room)) (nested_in_front docs room)
   nested-fits =
       any_docs_sound docs (nested_by docs room) (λ lines.
-      key_sound _ (then_sound (anything head_in_front) (λ head. mark_sound _ (made_sound _ (sound_as (repeated-fit (fits_item room) item-fits _) (λ us rest items h ts u. h))))))
+      key_sound _ (then_sound (anything head_in_front) (λ head. sound_as (nested_behind-fits lines head) (λ us rest it h ts u. h))))
 
-  -- No type of a file that is found has more levels than there is room for.
-  pub file-fits : Sound (Passes (fits_file room)) (file_in_front docs room)
-  file-fits =
-      any_docs_sound docs (file_by docs room) (λ lines.
-      key_sound _ (then_sound (anything head_in_front) (λ head. mark_sound _ (then_sound (until-fit (fits_item room) item-fits _) (λ items.
-      made_sound _ (sound_as (until-fit (fits_package room) nested-fits _) (λ vs rest nested k us h ts u. and_from _ _ h k)))))))
+  -- ---- texts
+
+  -- whether no type of a piece has more levels than there is room for
+  abbrev fits_piece : Piece → Bool
+  fits_piece (AnItem item) = fits_item room item
+  fits_piece (ANested it) = fits_nested room it
+
+  piece-fits : Sound (Passes fits_piece) (piece_in_front docs room)
+  piece-fits =
+      either_sound (begins_key Keyword.Package) (made_sound ANested (sound_as nested-fits (λ ts rest it h. h)))
+      (made_sound AnItem (sound_as item-fits (λ ts rest item h. h)))
+
+  -- the items among pieces, and the nested packages
+  items_fit : (pieces : List Piece) → list_all fits_piece pieces ≡ true → list_all (fits_item room) (filter_map item_of_piece pieces) ≡ true
+  items_fit [] h = refl
+  items_fit (AnItem item ∷ pieces) h = and_from _ _ (left_of (fits_item room item) _ h) (items_fit pieces (right_of (fits_item room item) _ h))
+  items_fit (ANested it ∷ pieces) h = items_fit pieces (right_of (fits_nested room it) _ h)
+
+  nested_fit : (pieces : List Piece) → list_all fits_piece pieces ≡ true → list_all (fits_nested room) (filter_map nested_of_piece pieces) ≡ true
+  nested_fit [] h = refl
+  nested_fit (AnItem item ∷ pieces) h = nested_fit pieces (right_of (fits_item room item) _ h)
+  nested_fit (ANested it ∷ pieces) h = and_from _ _ (left_of (fits_nested room it) _ h) (nested_fit pieces (right_of (fits_nested room it) _ h))
+
+  both_fit : (pieces : List Piece) → list_all fits_piece pieces ≡ true
+      → (list_all (fits_item room) (filter_map item_of_piece pieces) && list_all (fits_nested room) (filter_map nested_of_piece pieces)) ≡ true
+  both_fit pieces h = and_from _ _ (items_fit pieces h) (nested_fit pieces h)
+
+  text_by-fits : (lines : List Text) → Sound (Passes (fits_text room)) (text_by docs room lines)
+  text_by-fits lines =
+      if_key_sound _ (then_sound (anything head_in_front) (λ head.
+      if_mark_sound _ (made_sound _ (sound_as (until-fit fits_piece piece-fits _) (λ us rest pieces h ts u. both_fit pieces h)))
+      (then_sound (nested_behind-fits lines head) (λ it.
+      made_sound _ (sound_as (until-fit fits_piece piece-fits _) (λ vs rest pieces h us k ts u. both_fit (ANested it ∷ pieces) (and_from _ _ k h)))))))
+      (made_sound _ (sound_as (until-fit fits_piece piece-fits _) (λ ts rest pieces h. both_fit pieces h)))
+
+  -- No type of a text that is found has more levels than there is room for.
+  pub text-fits : Sound (Passes (fits_text room)) (text_in_front docs room)
+  unfolding if_key
+  text-fits = any_docs_sound docs (text_by docs room) text_by-fits

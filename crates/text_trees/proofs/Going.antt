@@ -2,18 +2,17 @@
 use Rattle.std.proofs.Common.{◌≡◌, refl, ap, sym, ◌∙◌, ℕ, ◌+◌, List, [], ◌∷◌, zero, suc, ◌<◌, ◌-◌, arith, sub-one, subst, true, false, if◌then◌else◌}
 use Rattle.text_trees.specs.ReadTypes.{form_in_front, level_in_front, type_in_front}
 use Rattle.wit_model.specs.Text.{Text}
-use Rattle.print_grammar.specs.Tree.{Declared, Declared.ResourceOf, FileTree, PackageHead}
+use Rattle.print_grammar.specs.Tree.{Declared, Declared.ResourceOf}
 use Rattle.text_trees.specs.Grammar.{Documentation}
 use Rattle.text_trees.specs.ReadDeclared.{resource_behind, resource_member_in_front}
 use Rattle.print_grammar.specs.Token.{Token, Mark, Mark.OpenBrace, Mark.CloseBrace, Mark.Semi}
-use Rattle.text_trees.specs.ReadFiles.{file_in_front, head_in_front}
-use Rattle.text_trees.specs.TreesSeen.{braced, file_behind}
+use Rattle.text_trees.specs.TreesSeen.{braced}
 use Rattle.print_grammar.specs.Keyword.{Keyword}
 use Rattle.text_trees.specs.declared.front.Tokens.{Tokens}
 use Rattle.text_trees.specs.declared.refusal.Refusal.{Refusal}
 use Rattle.text_trees.specs.declared.refusal.Refusal.TheVariants.{Memory, Wanted as NotThere}
 use Rattle.print_grammar.specs.Token.Token.{Word, Escaped, Key, VersionText, Digits, Quoted, Punctuation}
-use Rattle.text_trees.specs.Reading.{if_id, Wanted.AnId, Reading, id_in_front, listed, repeated, Reading.Found, Reading.Refused, Wanted.Shallower, Wanted.AMark, Wanted.AKeyword, then_read, made, behind, behind_key, begins, begins_key, behind_mark, if_mark, if_key}
+use Rattle.text_trees.specs.Reading.{if_id, Wanted.AnId, Reading, id_in_front, listed, repeated, Reading.Found, Reading.Refused, Wanted.Shallower, Wanted.AMark, then_read, made, behind, begins, begins_key, behind_mark, if_mark, if_key}
 use Rattle.text_trees.specs.declared.refusal.Wanted.{Wanted as CodeWanted}
 use Rattle.text_trees.specs.Seen.{RefusesAs, ahead, wanted_there}
 use Rattle.text_trees.proofs.Ahead.{behind_ahead}
@@ -48,6 +47,12 @@ pub if_key_goes : {X : Type 0} (them : Tokens) (keyword : Keyword) (next other :
 unfolding if_key
 if_key_goes them keyword next other at from h e =
     ap (λ b. if b then next (behind (ahead them at)) else other (ahead them at)) h ∙ ap next (behind_ahead them at ∙ ap (ahead them) (sym e))
+
+-- a keyword that isn't there
+pub if_key_not : {X : Type 0} (keyword : Keyword) (next other : List Token → Reading X) (ts : List Token) → begins_key keyword ts ≡ false
+    → if_key keyword next other ts ≡ other ts
+unfolding if_key
+if_key_not keyword next other ts h = ap (λ b. if b then next (behind ts) else other ts) h
 
 -- a mark that isn't there
 pub mark_refused : {X : Type 0} (them : Tokens) (mark : Mark) (next : List Token → Reading X) (at : ℕ) (w : CodeWanted) (e : Refusal) → begins mark (ahead them at) ≡ false
@@ -119,17 +124,3 @@ resource_refuses them docs name at from n h g e r =
     ap (λ b. if b then Found (ResourceOf name []) (behind (ahead them at)) else next (ahead them at)) n
     ∙ mark_goes them OpenBrace (λ rest. made (ResourceOf name) (repeated (resource_member_in_front docs 100) CloseBrace rest)) at from h g in
     subst (RefusesAs them e) (sym step) (made-refuses them (ResourceOf name) (repeated (resource_member_in_front docs 100) CloseBrace (ahead them from)) e r)
-
--- what names a file's package, and what is refused behind it
-pub file_refuses : (them : Tokens) (docs : Documentation) (lines : List Text) (head : PackageHead) (at from end : ℕ) → begins_key Keyword.Package (ahead them at) ≡ true
-    → from ≡ at + 1 → head_in_front (ahead them from) ≡ Found head (ahead them end) → lines ≡ docs (ahead them at) → (e : Refusal)
-    → RefusesAs them e (file_behind docs 100 lines head (ahead them end)) → RefusesAs them e (file_in_front docs 100 (ahead them at))
-unfolding behind_key then_read
-file_refuses them docs lines head at from end h g f d e r =
-    let next : List Token → Reading FileTree = λ rest. then_read (head_in_front rest) (λ head rest. file_behind docs 100 (docs (ahead them at)) head rest) in
-    let step : file_in_front docs 100 (ahead them at) ≡ file_behind docs 100 lines head (ahead them end) =
-    ap (λ b. if b then next (behind (ahead them at)) else Refused (AKeyword Keyword.Package) (ahead them at)) h
-    ∙ (ap next (behind_ahead them at ∙ ap (ahead them) (sym g))
-    ∙ (ap (λ x. then_read x (λ head rest. file_behind docs 100 (docs (ahead them at)) head rest)) f
-    ∙ ap (λ x. file_behind docs 100 x head (ahead them end)) (sym d))) in
-    subst (RefusesAs them e) (sym step) r

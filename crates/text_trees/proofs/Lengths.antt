@@ -4,7 +4,7 @@ use Rattle.wit_model.specs.Text.{Text}
 use Rattle.print_grammar.specs.Token.{Token}
 use Rattle.print_grammar.specs.Tree.{TypeTree, TypeTrees, Gates, Prefix, PathTree, UsedName}
 use Rattle.print_grammar.specs.Grammar.{CommaList, Repeated, ReadsType, ReadsTypes, ReadsParam, ReadsParams, ReadsResult, ReadsSignature, ReadsVersion, ReadsVersionArgument, ReadsPath, ReadsUsedName, ReadsUse, ReadsHead}
-use Rattle.text_trees.specs.Grammar.{Documentation, Marks, ReadsMarks, ReadsGates, ReadsPrefix, ReadsField, ReadsCase, ReadsLabel, ReadsResourceMember, ReadsDeclared, ReadsMember, ReadsExtern, ReadsWorldMember, ReadsItem, ReadsNested}
+use Rattle.text_trees.specs.Grammar.{Documentation, Marks, ReadsMarks, ReadsGates, ReadsPrefix, ReadsField, ReadsCase, ReadsLabel, ReadsResourceMember, ReadsDeclared, ReadsMember, ReadsExtern, ReadsWorldMember, ReadsOtherName, ReadsInclusion, ReadsPart, ReadsItem, ReadsNested}
 use Rattle.print_grammar.specs.Grammar.ReadsType.{primitive, named, named_with_percent, own, borrow, tuple, option, map, list, fixed_list, future, future_of, stream, stream_of, result, result_ok, result_of, result_err}
 use Rattle.print_grammar.specs.Grammar.ReadsTypes.{last_type, last_type_with_comma, next_type}
 use Rattle.print_grammar.specs.Grammar.CommaList.{last, last_with_comma, next}
@@ -21,7 +21,10 @@ use Rattle.text_trees.specs.Grammar.ReadsMember.{member_use, member_type, member
 use Rattle.text_trees.specs.Grammar.ReadsExtern.{extern_path, extern_function, extern_named_path, extern_interface}
 use Rattle.text_trees.specs.Grammar.ReadsWorldMember.{world_use, world_type, world_import, world_export}
 use Rattle.print_grammar.specs.Grammar.{ReadsHead.head}
-use Rattle.text_trees.specs.Grammar.{ReadsItem.interface_item, ReadsItem.world_item, ReadsNested.nested_package}
+use Rattle.text_trees.specs.Grammar.ReadsInclusion.{all_of, all_with, all_with_end}
+use Rattle.text_trees.specs.Grammar.{ReadsPart.has, ReadsPart.includes}
+use Rattle.text_trees.specs.Grammar.ReadsItem.{interface_item, world_item, name_item, other_name_item}
+use Rattle.text_trees.specs.Grammar.{ReadsNested.nested_package}
 
 -- what follows a thing is shorter
 abbrev pub Shortens : {X : Type 0} → (List Token → X → List Token → Type 0) → Type 0
@@ -160,9 +163,23 @@ world_member-shortens _ _ _ (world_type p d) = let h = prefix-shortens p in let 
 world_member-shortens _ _ _ (world_import p e) = let h = prefix-shortens p in let k = extern-shortens _ _ _ e in omega (arith, h, k)
 world_member-shortens _ _ _ (world_export p e) = let h = prefix-shortens p in let k = extern-shortens _ _ _ e in omega (arith, h, k)
 
+pub other_name-shortens : Shortens ReadsOtherName
+other_name-shortens _ _ _ (ReadsOtherName.other_name i j) = omega arith
+
+inclusion-shortens : {ts rest : List Token} {path : PathTree} {names : List UsedName} → ReadsInclusion ts path names rest → length rest < length ts
+inclusion-shortens (all_of p) = let h = path-shortens _ _ _ p in omega (arith, h)
+inclusion-shortens (all_with p l) = let h = path-shortens _ _ _ p in let k = listed-shortens other_name-shortens _ _ _ l in omega (arith, h, k)
+inclusion-shortens (all_with_end p l) = let h = path-shortens _ _ _ p in let k = listed-shortens other_name-shortens _ _ _ l in omega (arith, h, k)
+
+pub part-shortens : {docs : Documentation} → Shortens (ReadsPart docs)
+part-shortens _ _ _ (has r) = world_member-shortens _ _ _ r
+part-shortens _ _ _ (includes p r) = let h = prefix-shortens p in let k = inclusion-shortens r in omega (arith, h, k)
+
 pub item-shortens : {docs : Documentation} → Shortens (ReadsItem docs)
 item-shortens _ _ _ (interface_item g i l) = let h = gates-shorten g in let k = repeated-shortens member-shortens _ _ _ l in omega (arith, h, k)
-item-shortens _ _ _ (world_item g i l) = let h = gates-shorten g in let k = repeated-shortens world_member-shortens _ _ _ l in omega (arith, h, k)
+item-shortens _ _ _ (world_item g i l) = let h = gates-shorten g in let k = repeated-shortens part-shortens _ _ _ l in omega (arith, h, k)
+item-shortens _ _ _ (name_item p) = let h = path-shortens _ _ _ p in omega (arith, h)
+item-shortens _ _ _ (other_name_item p i) = let h = path-shortens _ _ _ p in omega (arith, h)
 
 head-shortens : Shortens ReadsHead
 head-shortens _ _ _ (head i j v) = let h = version-shortens v in omega (arith, h)

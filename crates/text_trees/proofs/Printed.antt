@@ -4,7 +4,7 @@ use Rattle.std.proofs.lemmas.{List.map-id, Iterator.Adapters.option_map_id}
 use Rattle.wit_model.specs.Text.{Text}
 use Rattle.print_grammar.specs.Grammar as printed
 use Rattle.print_grammar.specs.{Token.Token}
-use Rattle.print_grammar.specs.Tree.{Gates, SignatureTree, PackageHead, PackageTree, FileTree}
+use Rattle.print_grammar.specs.Tree.{Gates, SignatureTree, WorldMember, ItemTree, PackageHead, PackageTree, FileTree}
 use Rattle.print_grammar.specs.Tree.{ResourceMember.Constructor, ResourceMember.Method, ResourceMember.Static}
 use Rattle.print_grammar.specs.Tree.Declared.{RecordOf, VariantOf, FlagsOf, EnumOf, AliasOf, ResourceOf}
 use Rattle.print_grammar.specs.Tree.{ExternTree.Path, ExternTree.NamedFunction, ExternTree.NamedPath, ExternTree.NamedInterface}
@@ -25,6 +25,8 @@ use Rattle.print_grammar.specs.Grammar.{ReadsItem.interface_item, ReadsItem.worl
 use Rattle.print_grammar.specs.Grammar.{ReadsNested.nested_package, ReadsAllNested.nested_end, ReadsAllNested.next_nested, ReadsFile.file}
 use Rattle.print_grammar.specs.AsRead.{bare_prefix, bare_field, bare_case, bare_label, bare_signature, bare_resource_member, bare_declared, bare_member, bare_extern, bare_world_member, bare_item, bare_package, bare_file}
 use Rattle.text_trees.specs.Grammar as own
+use Rattle.text_trees.specs.Laws.{item_as_text, nested_as_text, file_as_text}
+use Rattle.text_trees.specs.TextTree.{WorldPart.Has}
 use Rattle.text_trees.specs.Grammar.{Documentation, Marks, no_marks, gates_of_marks}
 
 -- What is read with documentation, and is this without it.
@@ -201,7 +203,19 @@ module _ (docs : Documentation) where
       let m = extern_kept _ _ _ e in
       record { tree = WorldExport k.tree m.tree; reads = own.ReadsWorldMember.world_export k.reads m.reads; same = both WorldExport k.same m.same }
 
-  item_kept : Keeps printed.ReadsItem (own.ReadsItem docs) (bare_item (λ ty. ty))
+  -- ---- packages and texts
+
+  -- what a world has, as what a world of a text has
+  parts_of : {close : Token} {ts rest : List Token} {members : List WorldMember} → Repeated (own.ReadsWorldMember docs) close ts members rest
+      → Repeated (own.ReadsPart docs) close ts (map Has members) rest
+  parts_of closed = closed
+  parts_of (again r l) = again (own.ReadsPart.has r) (parts_of l)
+
+  -- an item, as one of a text
+  abbrev AsItem : List Token → ItemTree → List Token → Type 0
+  AsItem ts item rest = own.ReadsItem docs ts (item_as_text item) rest
+
+  item_kept : Keeps printed.ReadsItem AsItem (bare_item (λ ty. ty))
   item_kept ts _ _ (interface_item {label = label} {gates = gates} g i l) =
       let k = repeated_kept member_kept _ _ _ l in record {
         tree = InterfaceItem (docs ts) gates label k.tree;
@@ -211,50 +225,71 @@ module _ (docs : Documentation) where
   item_kept ts _ _ (world_item {label = label} {gates = gates} g i l) =
       let k = repeated_kept world_member_kept _ _ _ l in record {
         tree = WorldItem (docs ts) gates label k.tree;
-        reads = own.ReadsItem.world_item (gates_kept g) i k.reads;
+        reads = own.ReadsItem.world_item (gates_kept g) i (parts_of k.reads);
         same = ap (WorldItem [] gates label) k.same;
       }
 
-  -- ---- packages and files
-
-  items_kept : Keeps printed.ReadsItems (own.ReadsItems docs) (map (bare_item (λ ty. ty)))
-  items_kept _ _ _ no_items = record { tree = []; reads = own.ReadsItems.no_items; same = refl }
-  items_kept _ _ _ (next_item r l) =
-      let k = item_kept _ _ _ r in
-      let m = items_kept _ _ _ l in
-      record { tree = k.tree ∷ m.tree; reads = own.ReadsItems.next_item k.reads m.reads; same = both (λ x xs. x ∷ xs) k.same m.same }
+  -- items up to a closing mark, as those of a text
+  items_of : {close : Token} {ts rest : List Token} {items : List ItemTree} → Repeated AsItem close ts items rest
+      → Repeated (own.ReadsItem docs) close ts (map item_as_text items) rest
+  items_of closed = closed
+  items_of (again r l) = again r (items_of l)
 
   -- a head that is read has no documentation
   bare_head : {ts rest : List Token} {head : PackageHead} → printed.ReadsHead ts head rest → record head { docs = [] } ≡ head
   bare_head (printed.ReadsHead.head i j v) = refl
 
-  nested_kept : Keeps printed.ReadsNested (own.ReadsNested docs) (bare_package (λ ty. ty))
+  -- a nested package, as one of a text
+  abbrev AsNested : List Token → PackageTree → List Token → Type 0
+  AsNested ts tree rest = own.ReadsNested docs ts (nested_as_text tree) rest
+
+  nested_kept : Keeps printed.ReadsNested AsNested (bare_package (λ ty. ty))
   nested_kept ts _ _ (nested_package {head = head} h l) =
       let k = repeated_kept item_kept _ _ _ l in record {
         tree = record { head = record head { docs = docs ts }; items = k.tree };
-        reads = own.ReadsNested.nested_package h k.reads;
+        reads = own.ReadsNested.nested_package h (items_of k.reads);
         same = both (λ x xs. record { head = x; items = xs }) (bare_head h) k.same;
       }
 
-  -- nested packages, and nothing more
-  record AllKept (ts : List Token) (trees : List PackageTree) : Type 0 where
-    nested : List PackageTree
-    reads : own.ReadsAllNested docs ts nested
-    same : map (bare_package (λ ty. ty)) nested ≡ trees
+  -- items, then nested packages, and nothing more
+  record RestKept (ts : List Token) (items : List ItemTree) (trees : List PackageTree) : Type 0 where
+    own_items : List ItemTree
+    own_nested : List PackageTree
+    reads : own.ReadsRest docs ts (map item_as_text own_items) (map nested_as_text own_nested)
+    same_items : map (bare_item (λ ty. ty)) own_items ≡ items
+    same_nested : map (bare_package (λ ty. ty)) own_nested ≡ trees
 
-  all_nested_kept : {ts : List Token} {trees : List PackageTree} → printed.ReadsAllNested ts trees → AllKept ts trees
-  all_nested_kept nested_end = record { nested = []; reads = own.ReadsAllNested.nested_end; same = refl }
-  all_nested_kept (next_nested r l) =
+  nested_rest_kept : {ts : List Token} {trees : List PackageTree} → printed.ReadsAllNested ts trees → RestKept ts [] trees
+  nested_rest_kept nested_end = record { own_items = []; own_nested = []; reads = own.ReadsRest.rest_end; same_items = refl; same_nested = refl }
+  nested_rest_kept (next_nested r l) =
       let k = nested_kept _ _ _ r in
-      let m = all_nested_kept l in
-      record { nested = k.tree ∷ m.nested; reads = own.ReadsAllNested.next_nested k.reads m.reads; same = both (λ x xs. x ∷ xs) k.same m.same }
+      let m = nested_rest_kept l in record {
+        own_items = m.own_items;
+        own_nested = k.tree ∷ m.own_nested;
+        reads = own.ReadsRest.next_nested k.reads m.reads;
+        same_items = m.same_items;
+        same_nested = both (λ x xs. x ∷ xs) k.same m.same_nested;
+      }
+
+  rest_kept : {ts between : List Token} {items : List ItemTree} {trees : List PackageTree} → printed.ReadsItems ts items between
+      → printed.ReadsAllNested between trees → RestKept ts items trees
+  rest_kept no_items n = nested_rest_kept n
+  rest_kept (next_item r l) n =
+      let k = item_kept _ _ _ r in
+      let m = rest_kept l n in record {
+        own_items = k.tree ∷ m.own_items;
+        own_nested = m.own_nested;
+        reads = own.ReadsRest.next_item k.reads m.reads;
+        same_items = both (λ x xs. x ∷ xs) k.same m.same_items;
+        same_nested = m.same_nested;
+      }
 
   -- A file of the grammar of printed text is one with documentation.
-  pub file_kept : {ts : List Token} {tree : FileTree} → printed.ReadsFile ts tree → (file : FileTree) × own.ReadsFile docs ts file × (bare_file (λ ty. ty) file ≡ tree)
+  pub file_kept : {ts : List Token} {tree : FileTree} → printed.ReadsFile ts tree
+      → (file : FileTree) × own.ReadsText docs ts (file_as_text file) × (bare_file (λ ty. ty) file ≡ tree)
   file_kept {ts} (file {head = head} h l n) =
-      let k = items_kept _ _ _ l in
-      let m = all_nested_kept n in (
-        record { main = record { head = record head { docs = docs ts }; items = k.tree }; nested = m.nested },
-        own.ReadsFile.file h k.reads m.reads,
-        both (λ x xs. record { main = x; nested = xs }) (both (λ x xs. record { head = x; items = xs }) (bare_head h) k.same) m.same,
+      let m = rest_kept l n in (
+        record { main = record { head = record head { docs = docs ts }; items = m.own_items }; nested = m.own_nested },
+        own.ReadsText.with_name h m.reads,
+        both (λ x xs. record { main = x; nested = xs }) (both (λ x xs. record { head = x; items = xs }) (bare_head h) m.same_items) m.same_nested,
       )

@@ -15,9 +15,9 @@ use Rattle.print_grammar.specs.AsRead.{bare_case, bare_field, bare_signature, ba
 use Rattle.print_grammar.specs.Calls.{file_calls}
 use Rattle.print_output.specs.Render.{render}
 use Rattle.text_tokens.specs.Gaps.{Spaced, TextTokens}
-use Rattle.text_trees.specs.Grammar.{ReadsFile}
-use Rattle.text_trees.specs.Laws.{PrintedFilesAreFound, PrintedTextsAreRead, docs_here}
-use Rattle.text_trees.specs.Levels.{fits_type, fits_signature, fits_field, fits_case, fits_resource_member, fits_declared, fits_member, fits_extern, fits_world_member, fits_item, fits_package, fits_file}
+use Rattle.text_trees.specs.{Grammar.ReadsText, TextTree.WorldPart.Has}
+use Rattle.text_trees.specs.Laws.{PrintedFilesAreFound, PrintedTextsAreRead, docs_here, item_as_text, nested_as_text, file_as_text}
+use Rattle.text_trees.specs.Levels.{fits_type, fits_signature, fits_field, fits_case, fits_resource_member, fits_declared, fits_member, fits_extern, fits_world_member, fits_part, fits_item, fits_nested, fits_text}
 use Rattle.text_trees.proofs.{Printed.file_kept, Texts.texts_are_read}
 
 -- ---- documentation makes no difference to levels
@@ -64,15 +64,28 @@ module _ (room : ℕ) where
   world_member_same (WorldImport prefix e) = extern_same e
   world_member_same (WorldExport prefix e) = extern_same e
 
-  item_same : (item : ItemTree) → fits_item room (bare_item (λ ty. ty) item) ≡ fits_item room item
+  -- what a world has, as what a world of a text has
+  parts_same : (members : List WorldMember)
+      → list_all (fits_part room) (map Has (map (bare_world_member (λ ty. ty)) members)) ≡ list_all (fits_part room) (map Has members)
+  parts_same [] = refl
+  parts_same (member ∷ members) = rw (world_member_same member, parts_same members) refl
+
+  item_same : (item : ItemTree) → fits_item room (item_as_text (bare_item (λ ty. ty) item)) ≡ fits_item room (item_as_text item)
   item_same (InterfaceItem docs gates name members) = all_same (fits_member room) (bare_member (λ ty. ty)) member_same members
-  item_same (WorldItem docs gates name members) = all_same (fits_world_member room) (bare_world_member (λ ty. ty)) world_member_same members
+  item_same (WorldItem docs gates name members) = parts_same members
 
-  package_same : (tree : PackageTree) → fits_package room (bare_package (λ ty. ty) tree) ≡ fits_package room tree
-  package_same tree = all_same (fits_item room) (bare_item (λ ty. ty)) item_same tree.items
+  items_same : (items : List ItemTree)
+      → list_all (fits_item room) (map item_as_text (map (bare_item (λ ty. ty)) items)) ≡ list_all (fits_item room) (map item_as_text items)
+  items_same [] = refl
+  items_same (item ∷ items) = rw (item_same item, items_same items) refl
 
-  file_same : (file : FileTree) → fits_file room (bare_file (λ ty. ty) file) ≡ fits_file room file
-  file_same file = rw (package_same file.main, all_same (fits_package room) (bare_package (λ ty. ty)) package_same file.nested) refl
+  all_nested_same : (trees : List PackageTree)
+      → list_all (fits_nested room) (map nested_as_text (map (bare_package (λ ty. ty)) trees)) ≡ list_all (fits_nested room) (map nested_as_text trees)
+  all_nested_same [] = refl
+  all_nested_same (tree ∷ trees) = rw (items_same tree.items, all_nested_same trees) refl
+
+  file_same : (file : FileTree) → fits_text room (file_as_text (bare_file (λ ty. ty) file)) ≡ fits_text room (file_as_text file)
+  file_same file = rw (items_same file.main.items, all_nested_same file.nested) refl
 
 -- ---- texts
 
@@ -81,11 +94,11 @@ pub printed_texts_are_read : ((text : List ℕ) (ts : List Token) → Tokens tex
 printed_texts_are_read stay text file r =
     let (found, spelled, same) = stay text r.tokens r.spelled in
     let (tree, reads, bare) = file_kept (docs_here found) r.parsed in
-    (tree, record { found = found; spelled = spelled; parsed = subst (λ ts. ReadsFile (docs_here found) ts tree) (sym same) reads }, bare)
+    (tree, record { found = found; spelled = spelled; parsed = subst (λ ts. ReadsText (docs_here found) ts (file_as_text tree)) (sym same) reads }, bare)
 
 pub printed_files_are_found : PrintedTextsAreRead
     → ((emits_docs : Bool) (file : FileTree) → is_well_file file ≡ true → IsOnlyReading (render (file_calls emits_docs file)) (file_as_read file)) → PrintedFilesAreFound
 printed_files_are_found read well room emits_docs file found named fits t =
     let (tree, r, bare) = read (render (file_calls emits_docs file)) (file_as_read file) (well emits_docs file named).reading in
-    let fit : fits_file room tree ≡ true = sym (file_same room tree) ∙ (ap (fits_file room) bare ∙ fits) in
-    (tree, (texts_are_read room (render (file_calls emits_docs file)) found tree t).1 (r, fit), bare)
+    let fit : fits_text room (file_as_text tree) ≡ true = sym (file_same room tree) ∙ (ap (λ x. fits_text room (file_as_text x)) bare ∙ fits) in
+    (tree, (texts_are_read room (render (file_calls emits_docs file)) found (file_as_text tree) t).1 (r, fit), bare)

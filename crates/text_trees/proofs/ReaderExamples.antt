@@ -4,11 +4,12 @@ use Rattle.wit_model.specs.Text.{Text}
 use Rattle.print_grammar.specs.{Keyword.Keyword, Keyword.PrimitiveName.U8, Token.Token}
 use Rattle.print_grammar.specs.Token.Mark.{OpenBrace, CloseBrace, OpenParen, CloseParen, Less, Greater, Colon, Semi, Comma, Equals, Slash, At}
 use Rattle.print_grammar.specs.Token.Token.{Word, Escaped, Key, VersionText, Quoted, Punctuation}
-use Rattle.print_grammar.specs.Tree.{FileTree, Gates.Ungated, Gates.Since, PathTree.Full, ExternTree.Path, MemberTree.FunctionMember, WorldMember.WorldImport, ItemTree.InterfaceItem, ItemTree.WorldItem, TypeTree.ListOf, TypeTree.PrimitiveType, TypeTree.Future}
+use Rattle.print_grammar.specs.Tree.{Gates.Ungated, Gates.Since, Prefix, PackageHead, PathTree.Local, PathTree.Full, ExternTree.Path, MemberTree.FunctionMember, WorldMember.WorldImport, TypeTree.ListOf, TypeTree.PrimitiveType, TypeTree.Future}
 use Rattle.text_trees.specs.Grammar.{Documentation}
+use Rattle.text_trees.specs.TextTree.{TextTree, TextItem.AnInterface, TextItem.AWorld, TextItem.AName, WorldPart.Has, WorldPart.Includes}
 use Rattle.text_trees.specs.Reading.{Wanted, Reading.Found, Reading.Refused, then_read, made, behind, behind_mark, if_mark, behind_key, if_key, if_id, if_word, id_in_front, version_in_front, digits_in_front, quoted_in_front, things_in_front, until, repeated, listed_in_front, listed}
 use Rattle.text_trees.specs.ReadDeclared.{if_free, marks_from, marks_in_front, gates_in_front, prefix_in_front}
-use Rattle.text_trees.specs.{ReadTypes.level_in_front, ReadTypes.type_in_front, ReadFiles.file_in_front}
+use Rattle.text_trees.specs.{ReadTypes.level_in_front, ReadTypes.type_in_front, ReadFiles.text_in_front}
 
 -- what computes in the examples
 computes : ℕ
@@ -55,28 +56,26 @@ counted : Documentation
 counted ts = (length ts ∷ []) ∷ []
 
 -- the package has documentation in front of 35 tokens, the interface of 30, its function of 27, the world of 13 and its import of 10
-whole_tree : FileTree
+whole_tree : TextTree
 whole_tree = record {
-  main = record {
-    head = record { docs = (35 ∷ []) ∷ []; namespace = codes "a"; name = codes "b"; version = None };
-    items =
-        InterfaceItem ((30 ∷ []) ∷ []) Ungated (codes "c")
-        (FunctionMember (record { docs = (27 ∷ []) ∷ []; gates = Ungated; external_id = None }) (codes "f")
-        (record { is_async = false; params = record { name = codes "g"; ty = ListOf (PrimitiveType U8) } ∷ []; result = None }) ∷ [])
-        ∷ WorldItem ((13 ∷ []) ∷ []) Ungated (codes "w")
-        (WorldImport (record { docs = (10 ∷ []) ∷ []; gates = Ungated; external_id = None })
-        (Path (Full (codes "d") (codes "e") (codes "h") (Some (codes "1.0.0")))) ∷ []) ∷ [];
-  };
+  head = Some (record { docs = (35 ∷ []) ∷ []; namespace = codes "a"; name = codes "b"; version = None });
+  items =
+      AnInterface ((30 ∷ []) ∷ []) Ungated (codes "c")
+      (FunctionMember (record { docs = (27 ∷ []) ∷ []; gates = Ungated; external_id = None }) (codes "f")
+      (record { is_async = false; params = record { name = codes "g"; ty = ListOf (PrimitiveType U8) } ∷ []; result = None }) ∷ [])
+      ∷ AWorld ((13 ∷ []) ∷ []) Ungated (codes "w")
+      (Has (WorldImport (record { docs = (10 ∷ []) ∷ []; gates = Ungated; external_id = None })
+      (Path (Full (codes "d") (codes "e") (codes "h") (Some (codes "1.0.0"))))) ∷ []) ∷ [];
   nested = [];
 }
 
-file_found : file_in_front counted 1 whole_file ≡ Found whole_tree []
+file_found : text_in_front counted 1 whole_file ≡ Found whole_tree []
 unfolding computes whole_file whole_tree counted
 file_found = refl
 
 -- package a:b; interface c { f: }: `func` is wanted at `}`
 func_wanted :
-    file_in_front counted 1 (Key Keyword.Package ∷ Word (codes "a") ∷ Punctuation Colon ∷ Word (codes "b") ∷ Punctuation Semi ∷ Key Keyword.Interface
+    text_in_front counted 1 (Key Keyword.Package ∷ Word (codes "a") ∷ Punctuation Colon ∷ Word (codes "b") ∷ Punctuation Semi ∷ Key Keyword.Interface
     ∷ Word (codes "c") ∷ Punctuation OpenBrace ∷ Word (codes "f") ∷ Punctuation Colon ∷ Punctuation CloseBrace ∷ [])
     ≡ Refused (Wanted.AKeyword Keyword.Func) (Punctuation CloseBrace ∷ [])
 unfolding computes
@@ -84,10 +83,96 @@ func_wanted = refl
 
 -- package a:b; @until: an attribute is wanted behind `@`
 attribute_wanted :
-    file_in_front counted 1 (Key Keyword.Package ∷ Word (codes "a") ∷ Punctuation Colon ∷ Word (codes "b") ∷ Punctuation Semi ∷ Punctuation At
+    text_in_front counted 1 (Key Keyword.Package ∷ Word (codes "a") ∷ Punctuation Colon ∷ Word (codes "b") ∷ Punctuation Semi ∷ Punctuation At
     ∷ Word (codes "until") ∷ []) ≡ Refused Wanted.AnAttribute (Word (codes "until") ∷ [])
 unfolding computes
 attribute_wanted = refl
+
+-- ---- texts without a name, inclusions, names at the top
+
+-- what names a package, with documentation in front of so many tokens
+head_there : ℕ → Text → Text → PackageHead
+head_there n namespace name = record { docs = (n ∷ []) ∷ []; namespace = namespace; name = name; version = None }
+
+-- what stands in front of an item without attributes, with documentation in front of so many tokens
+prefix_there : ℕ → Prefix
+prefix_there n = record { docs = (n ∷ []) ∷ []; gates = Ungated; external_id = None }
+
+-- use a as b; package c:d { world w { include e; include f with { g as h, } ; } } use i;
+loose_text : List Token
+loose_text =
+    Key Keyword.Use ∷ Word (codes "a") ∷ Key Keyword.As ∷ Word (codes "b") ∷ Punctuation Semi
+    ∷ Key Keyword.Package ∷ Word (codes "c") ∷ Punctuation Colon ∷ Word (codes "d") ∷ Punctuation OpenBrace
+    ∷ Key Keyword.World ∷ Word (codes "w") ∷ Punctuation OpenBrace
+    ∷ Key Keyword.Include ∷ Word (codes "e") ∷ Punctuation Semi
+    ∷ Key Keyword.Include ∷ Word (codes "f") ∷ Key Keyword.With ∷ Punctuation OpenBrace
+    ∷ Word (codes "g") ∷ Key Keyword.As ∷ Word (codes "h") ∷ Punctuation Comma ∷ Punctuation CloseBrace ∷ Punctuation Semi
+    ∷ Punctuation CloseBrace ∷ Punctuation CloseBrace
+    ∷ Key Keyword.Use ∷ Word (codes "i") ∷ Punctuation Semi ∷ []
+
+loose_tree : TextTree
+loose_tree = record {
+  head = None;
+  items = AName (Local (codes "a")) (Some (codes "b")) ∷ AName (Local (codes "i")) None ∷ [];
+  nested =
+      record {
+        head = head_there 26 (codes "c") (codes "d");
+        items =
+            AWorld ((21 ∷ []) ∷ []) Ungated (codes "w")
+            (Includes (prefix_there 18) (Local (codes "e")) []
+            ∷ Includes (prefix_there 15) (Local (codes "f")) (record { other = codes "g"; own = Some (codes "h") } ∷ []) ∷ []) ∷ [];
+      } ∷ [];
+}
+
+loose_found : text_in_front counted 1 loose_text ≡ Found loose_tree []
+unfolding computes loose_text loose_tree counted head_there prefix_there
+loose_found = refl
+
+-- package a:b {}: a text whose package is nested
+nested_found :
+    text_in_front counted 1
+    (Key Keyword.Package ∷ Word (codes "a") ∷ Punctuation Colon ∷ Word (codes "b") ∷ Punctuation OpenBrace ∷ Punctuation CloseBrace ∷ [])
+    ≡ Found (record { head = None; items = []; nested = record { head = head_there 6 (codes "a") (codes "b"); items = [] } ∷ [] }) []
+unfolding computes counted head_there
+nested_found = refl
+
+-- no tokens: a text of nothing
+nothing_found : text_in_front counted 1 [] ≡ Found (record { head = None; items = []; nested = [] }) []
+unfolding computes
+nothing_found = refl
+
+-- world w { REST
+in_world : List Token → List Token
+in_world rest = Key Keyword.World ∷ Word (codes "w") ∷ Punctuation OpenBrace ∷ rest
+
+-- include a }: `;` is wanted at `}`
+end_wanted :
+    text_in_front counted 1 (in_world (Key Keyword.Include ∷ Word (codes "a") ∷ Punctuation CloseBrace ∷ []))
+    ≡ Refused (Wanted.AMark Semi) (Punctuation CloseBrace ∷ [])
+unfolding computes in_world
+end_wanted = refl
+
+-- include a with { b }: `as` is wanted at `}`
+as_wanted :
+    text_in_front counted 1 (in_world (Key Keyword.Include ∷ Word (codes "a") ∷ Key Keyword.With ∷ Punctuation OpenBrace
+    ∷ Word (codes "b") ∷ Punctuation CloseBrace ∷ []))
+    ≡ Refused (Wanted.AKeyword Keyword.As) (Punctuation CloseBrace ∷ [])
+unfolding computes in_world
+as_wanted = refl
+
+-- include a with { b as c } ; ;: what a world has is wanted at the second `;`
+part_wanted :
+    text_in_front counted 1 (in_world (Key Keyword.Include ∷ Word (codes "a") ∷ Key Keyword.With ∷ Punctuation OpenBrace
+    ∷ Word (codes "b") ∷ Key Keyword.As ∷ Word (codes "c") ∷ Punctuation CloseBrace ∷ Punctuation Semi ∷ Punctuation Semi ∷ []))
+    ≡ Refused Wanted.AMember (Punctuation Semi ∷ [])
+unfolding computes in_world
+part_wanted = refl
+
+-- use a {: `;` is wanted at `{`
+top_end_wanted :
+    text_in_front counted 1 (Key Keyword.Use ∷ Word (codes "a") ∷ Punctuation OpenBrace ∷ []) ≡ Refused (Wanted.AMark Semi) (Punctuation OpenBrace ∷ [])
+unfolding computes
+top_end_wanted = refl
 
 -- ---- attributes
 

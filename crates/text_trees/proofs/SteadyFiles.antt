@@ -1,20 +1,20 @@
--- Readers of types, declared types, interfaces, worlds and files answer alike for tokens that begin alike.
+-- Readers of types, declared types, interfaces, worlds and texts answer alike for tokens that begin alike.
 use Rattle.std.proofs.Common.{◌≡◌, refl, ℕ, Bool, true, false, List, [], ◌∷◌, zero, suc, if◌then◌else◌, Option, Some, None}
 use Rattle.print_grammar.specs.{Keyword.Keyword, Token.Token}
 use Rattle.print_grammar.specs.Token.Mark.{CloseBrace, Slash}
 use Rattle.print_grammar.specs.Token.Token.{Word, Escaped, Key}
-use Rattle.print_grammar.specs.Tree.{TypeTree, TypeTree.PrimitiveType, TypeTree.Name, SignatureTree, PathTree, UsedName}
-use Rattle.text_trees.specs.Reading.{Wanted, Reading, Reading.Refused, begins, listed}
+use Rattle.print_grammar.specs.Tree.{TypeTree, TypeTree.PrimitiveType, TypeTree.Name, SignatureTree, Prefix, PackageHead, PathTree, UsedName}
+use Rattle.text_trees.specs.Reading.{Wanted, Reading, Reading.Refused, begins, begins_key, if_key, listed, until}
 use Rattle.text_trees.specs.ReadTypes.{payload_in_front, form_in_front, type_by, level_in_front, type_in_front, param_in_front, params_in_front, result_in_front, begins_signature, signature_in_front}
-use Rattle.text_trees.specs.ReadDeclared.{at_version_in_front, full_path_behind, path_behind, used_name_in_front, use_behind, field_in_front, case_in_front, label_in_front, function_behind, resource_member_in_front, declared_in_front}
-use Rattle.text_trees.specs.ReadFiles.{member_in_front, extern_in_front, world_member_in_front, item_in_front, head_in_front, nested_in_front, is_end, ends_items, file_in_front}
+use Rattle.text_trees.specs.ReadDeclared.{at_version_in_front, full_path_behind, path_behind, path_in_front, used_name_in_front, use_behind, field_in_front, case_in_front, label_in_front, function_behind, resource_member_in_front, declared_in_front}
+use Rattle.text_trees.specs.ReadFiles.{member_in_front, extern_in_front, world_member_behind, world_member_in_front, other_name_in_front, part_in_front, item_in_front, head_in_front, nested_behind, nested_in_front, Piece.AnItem, Piece.ANested, piece_in_front, is_end, text_in_front}
 use Rattle.text_trees.specs.{Grammar.Documentation, Places.first_alone}
 use Rattle.text_trees.proofs.Finding.{Sound, is_there}
-use Rattle.text_trees.proofs.Lengths.{Shortens, type-shortens, param-shortens, used_name-shortens, field-shortens, case-shortens, label-shortens, resource_member-shortens, member-shortens, world_member-shortens, item-shortens, nested-shortens}
+use Rattle.text_trees.proofs.Lengths.{Shortens, type-shortens, param-shortens, used_name-shortens, field-shortens, case-shortens, label-shortens, resource_member-shortens, member-shortens, world_member-shortens, other_name-shortens, part-shortens, item-shortens, nested-shortens}
 use Rattle.text_trees.proofs.TypesFound.{type-sound, by-sound, level-sound, param-sound}
 use Rattle.text_trees.proofs.DeclaredFound.{used_name-sound, field-sound, case-sound, label-sound, resource_member-sound}
-use Rattle.text_trees.proofs.FilesFound.{member-sound, world_member-sound, item-sound, nested-sound}
-use Rattle.text_trees.proofs.Steady.{Steady, Windowed, of_first, begins_windowed, found_steady, refused_steady, then_steady, made_steady, either_steady, steady_as, mark_steady, if_mark_steady, key_steady, if_key_steady, taken, taken_steady, id_steady, version_steady, digits_steady, if_id_steady}
+use Rattle.text_trees.proofs.FilesFound.{other_name-sound, member-sound, world_member-sound, part-sound, item-sound, ReadsPiece, piece-sound}
+use Rattle.text_trees.proofs.Steady.{Steady, Windowed, of_first, begins_windowed, begins_key_windowed, found_steady, refused_steady, then_steady, made_steady, either_steady, steady_as, mark_steady, if_mark_steady, key_steady, if_key_steady, taken, taken_steady, id_steady, version_steady, digits_steady, if_id_steady}
 use Rattle.text_trees.proofs.SteadyMarks.{gates-steady, prefix-steady}
 use Rattle.text_trees.proofs.SteadyLists.{Shrinks, until_steady, repeated_steady, listed_steady}
 
@@ -29,9 +29,6 @@ signature_windowed = of_first begins_signature (elim [ [] ↦ refl | t ∷ ts �
 
 end_windowed : Windowed is_end
 end_windowed = of_first is_end (elim [ [] ↦ refl | t ∷ ts ↦ refl ])
-
-ends_windowed : Windowed ends_items
-ends_windowed = of_first ends_items (elim [ [] ↦ refl | t ∷ ts ↦ refl ])
 
 -- ---- types
 
@@ -121,10 +118,19 @@ used_name-steady = then_steady id_steady (λ other. if_key_steady _ (then_steady
 pub used_name-shrinks : Shrinks used_name_in_front
 used_name-shrinks = shrinks used_name-sound used_name-shortens
 
+path-steady : Steady path_in_front
+path-steady = then_steady id_steady path_behind-steady
+
 use-steady : {X : Type 0} (use_of : PathTree → List UsedName → X) → Steady (use_behind use_of)
 use-steady use_of =
-    then_steady (then_steady id_steady path_behind-steady) (λ path. mark_steady _ (mark_steady _ (then_steady
+    then_steady path-steady (λ path. mark_steady _ (mark_steady _ (then_steady
     (listed_steady used_name-steady used_name-shrinks _) (λ names. mark_steady _ found_steady))))
+
+other_name-steady : Steady other_name_in_front
+other_name-steady = then_steady id_steady (λ other. key_steady _ (made_steady _ id_steady))
+
+pub other_name-shrinks : Shrinks other_name_in_front
+other_name-shrinks = shrinks other_name-sound other_name-shortens
 
 -- ---- declared types
 
@@ -157,11 +163,18 @@ module _ (docs : Documentation) (room : ℕ) where
   pub world_member-shrinks : Shrinks (world_member_in_front docs room)
   world_member-shrinks = shrinks (world_member-sound docs room) world_member-shortens
 
+  pub part-shrinks : Shrinks (part_in_front docs room)
+  part-shrinks = shrinks (part-sound docs room) part-shortens
+
   pub item-shrinks : Shrinks (item_in_front docs room)
   item-shrinks = shrinks (item-sound docs room) item-shortens
 
-  pub nested-shrinks : Shrinks (nested_in_front docs room)
-  nested-shrinks = shrinks (nested-sound docs room) nested-shortens
+  piece-shortens : Shortens (ReadsPiece docs room)
+  piece-shortens ts rest (AnItem item) r = item-shortens _ _ _ r
+  piece-shortens ts rest (ANested it) r = nested-shortens _ _ _ r
+
+  pub piece-shrinks : Shrinks (piece_in_front docs room)
+  piece-shrinks = shrinks (piece-sound docs room) piece-shortens
 
 module _ (room : ℕ) where
   type-steady : Steady (type_in_front room)
@@ -232,30 +245,47 @@ module _ (room : ℕ) where
       either_steady (begins Slash) (begins_windowed Slash) (then_steady (full_path-steady name second) (λ path. mark_steady _ found_steady))
       (then_steady (path_behind-steady second) (λ path. mark_steady _ found_steady))))))))
 
-  world_member-steady : Steady (world_member_in_front nothing room)
-  world_member-steady =
-      then_steady prefix-steady (λ pre.
+  world_member_behind-steady : (pre : Prefix) → Steady (world_member_behind nothing room pre)
+  world_member_behind-steady pre =
       if_key_steady _ (made_steady _ extern-steady)
       (if_key_steady _ (made_steady _ extern-steady)
-      (if_key_steady _ (use-steady _) (made_steady _ declared-steady))))
+      (if_key_steady _ (use-steady _) (made_steady _ declared-steady)))
+
+  part-steady : Steady (part_in_front nothing room)
+  part-steady =
+      then_steady prefix-steady (λ pre.
+      if_key_steady _ (then_steady path-steady (λ path. if_key_steady _ (mark_steady _ (then_steady
+      (listed_steady other_name-steady other_name-shrinks _) (λ names.
+      if_mark_steady _ found_steady found_steady))) (mark_steady _ found_steady)))
+      (made_steady _ (world_member_behind-steady pre)))
 
   item-steady : Steady (item_in_front nothing room)
   item-steady =
-      then_steady gates-steady (λ gates.
+      if_key_steady _ (then_steady path-steady (λ path.
+      if_key_steady _ (then_steady id_steady (λ own. mark_steady _ found_steady)) (mark_steady _ found_steady)))
+      (then_steady gates-steady (λ gates.
       if_key_steady _ (then_steady id_steady (λ name. made_steady _ (mark_steady _ (repeated_steady member-steady (member-shrinks nothing room) _))))
       (if_key_steady _ (then_steady id_steady (λ name. made_steady _ (mark_steady _
-      (repeated_steady world_member-steady (world_member-shrinks nothing room) _)))) refused_steady))
+      (repeated_steady part-steady (part-shrinks nothing room) _)))) refused_steady)))
 
   head-steady : Steady head_in_front
   head-steady = then_steady id_steady (λ namespace. mark_steady _ (then_steady id_steady (λ name. made_steady _ at_version-steady)))
 
-  nested-steady : Steady (nested_in_front nothing room)
-  nested-steady =
-      key_steady _ (then_steady head-steady (λ head. mark_steady _ (made_steady _ (repeated_steady item-steady (item-shrinks nothing room) _))))
+  nested_behind-steady : (head : PackageHead) → Steady (nested_behind nothing room [] head)
+  nested_behind-steady head = mark_steady _ (made_steady _ (repeated_steady item-steady (item-shrinks nothing room) _))
 
-  -- The reader of a file, without documentation, answers alike for tokens that begin alike.
-  pub file-steady : Steady (file_in_front nothing room)
-  file-steady =
-      key_steady _ (then_steady head-steady (λ head. mark_steady _ (then_steady
-      (until_steady item-steady (item-shrinks nothing room) ends_items ends_windowed) (λ items.
-      made_steady _ (until_steady nested-steady (nested-shrinks nothing room) is_end end_windowed)))))
+  nested-steady : Steady (nested_in_front nothing room)
+  nested-steady = key_steady _ (then_steady head-steady nested_behind-steady)
+
+  pieces-steady : Steady (until is_end (piece_in_front nothing room))
+  pieces-steady =
+      until_steady (either_steady (begins_key Keyword.Package) (begins_key_windowed Keyword.Package) (made_steady _ nested-steady) (made_steady _ item-steady))
+      (piece-shrinks nothing room) is_end end_windowed
+
+  -- The reader of a text, without documentation, answers alike for tokens that begin alike.
+  pub text-steady : Steady (text_in_front nothing room)
+  unfolding if_key
+  text-steady =
+      if_key_steady Keyword.Package (then_steady head-steady (λ head.
+      if_mark_steady _ (made_steady _ pieces-steady) (then_steady (nested_behind-steady head) (λ it. made_steady _ pieces-steady))))
+      (made_steady _ pieces-steady)

@@ -3,12 +3,12 @@ use Rattle.std.proofs.Common.{◌≡◌, ℕ, Bool, true, false, List, ◌∷◌
 use Rattle.wit_model.specs.Text.{Text}
 use Rattle.print_grammar.specs.{Keyword.Keyword, Token.Token, Token.Mark}
 use Rattle.print_grammar.specs.Token.Token.{Word, Escaped}
-use Rattle.print_grammar.specs.Tree.{SignatureTree, PathTree, UsedName, FileTree}
-use Rattle.text_trees.specs.Grammar.{Documentation}
+use Rattle.print_grammar.specs.Tree.{SignatureTree, Prefix, PackageHead, PathTree, UsedName}
+use Rattle.text_trees.specs.{Grammar.Documentation, TextTree.TextTree}
 use Rattle.text_trees.specs.Reading.{Wanted, Reading, Reading.Found, Reading.Refused, then_read, made, behind, begins, behind_mark, if_mark, begins_key, behind_key, if_key, if_id, things_in_front, until, repeated, listed_in_front, listed}
 use Rattle.text_trees.specs.ReadDeclared.{prefix_in_front, use_behind, function_behind, field_in_front, case_in_front, label_in_front, resource_member_in_front, declared_in_front}
-use Rattle.text_trees.specs.ReadFiles.{member_in_front, extern_in_front, world_member_in_front, item_in_front, nested_in_front, file_in_front}
-use Rattle.text_trees.proofs.FilesFound.{item_by, nested_by, file_by}
+use Rattle.text_trees.specs.ReadFiles.{member_in_front, extern_in_front, world_member_behind, part_in_front, item_in_front, nested_behind, nested_in_front, piece_in_front, text_in_front}
+use Rattle.text_trees.proofs.FilesFound.{item_by, nested_by, text_by}
 
 -- ---- readings
 
@@ -183,33 +183,49 @@ module _ (docs others : Documentation) (room : ℕ) where
       behind_same _ (λ name. if_a_mark _ finding (behind_a_mark _ (by_a_test _ (function_stops room _ _)
       (if_a_key _ (making _ _ (behind_a_mark _ (repeated_stops member_stops _))) it_is))))
 
-  world_member_stops : StopAlike (world_member_in_front docs room) (world_member_in_front others room)
-  world_member_stops =
+  world_member_behind_stops : (pre other : Prefix) → StopAlike (world_member_behind docs room pre) (world_member_behind others room other)
+  world_member_behind_stops pre other =
+      if_a_key _ (making _ _ extern_stops) (if_a_key _ (making _ _ extern_stops) (if_a_key _ (use_stops _ _) (making _ _ declared_stops)))
+
+  part_stops : StopAlike (part_in_front docs room) (part_in_front others room)
+  part_stops =
       behind_alike prefix_stops (λ pre other.
-      if_a_key _ (making _ _ extern_stops) (if_a_key _ (making _ _ extern_stops) (if_a_key _ (use_stops _ _) (making _ _ declared_stops))))
+      if_a_key _ (behind_same _ (λ path. if_a_key _ (behind_a_mark _ (behind_same _ (λ names. if_a_mark _ finding finding))) (behind_a_mark _ finding)))
+      (making _ _ (world_member_behind_stops pre other)))
 
   item_stops : StopAlike (item_in_front docs room) (item_in_front others room)
   item_stops =
       by_docs docs others (item_by docs room) (item_by others room) (λ lines more.
-      behind_same _ (λ gates.
+      if_a_key _ it_is
+      (behind_same _ (λ gates.
       if_a_key _ (behind_same _ (λ name. making _ _ (behind_a_mark _ (repeated_stops member_stops _))))
-      (if_a_key _ (behind_same _ (λ name. making _ _ (behind_a_mark _ (repeated_stops world_member_stops _)))) it_is)))
+      (if_a_key _ (behind_same _ (λ name. making _ _ (behind_a_mark _ (repeated_stops part_stops _)))) it_is))))
+
+  nested_behind_stops : (lines more : List Text) (head : PackageHead) → StopAlike (nested_behind docs room lines head) (nested_behind others room more head)
+  nested_behind_stops lines more head = behind_a_mark _ (making _ _ (repeated_stops item_stops _))
 
   nested_stops : StopAlike (nested_in_front docs room) (nested_in_front others room)
   nested_stops =
-      by_docs docs others (nested_by docs room) (nested_by others room) (λ lines more.
-      behind_a_key _ (behind_same _ (λ head. behind_a_mark _ (making _ _ (repeated_stops item_stops _)))))
+      by_docs docs others (nested_by docs room) (nested_by others room) (λ lines more. behind_a_key _ (behind_same _ (nested_behind_stops lines more)))
 
-  file_stops : StopAlike (file_in_front docs room) (file_in_front others room)
-  file_stops =
-      by_docs docs others (file_by docs room) (file_by others room) (λ lines more.
-      behind_a_key _ (behind_same _ (λ head. behind_a_mark _ (behind_alike (until_stops item_stops _) (λ items more_items.
-      making _ _ (until_stops nested_stops _))))))
+  piece_stops : StopAlike (piece_in_front docs room) (piece_in_front others room)
+  piece_stops = by_a_test (begins_key Keyword.Package) (making _ _ nested_stops) (making _ _ item_stops)
+
+  text_by_stops : (lines more : List Text) → StopAlike (text_by docs room lines) (text_by others room more)
+  text_by_stops lines more =
+      if_a_key _ (behind_same _ (λ head.
+      if_a_mark _ (making _ _ (until_stops piece_stops _))
+      (behind_alike (nested_behind_stops lines more head) (λ it other. making _ _ (until_stops piece_stops _)))))
+      (making _ _ (until_stops piece_stops _))
+
+  text_stops : StopAlike (text_in_front docs room) (text_in_front others room)
+  unfolding if_key
+  text_stops = by_docs docs others (text_by docs room) (text_by others room) text_by_stops
 
   -- What is refused with some documentation is refused with any, at the same place, and the same is wanted.
-  pub refused_with_any : (ts rest : List Token) (wanted : Wanted) → file_in_front docs room ts ≡ Refused wanted rest → file_in_front others room ts ≡ Refused wanted rest
-  refused_with_any ts rest wanted e = go (file_stops.at ts) e
+  pub refused_with_any : (ts rest : List Token) (wanted : Wanted) → text_in_front docs room ts ≡ Refused wanted rest → text_in_front others room ts ≡ Refused wanted rest
+  refused_with_any ts rest wanted e = go (text_stops.at ts) e
     where
-      go : {r s : Reading FileTree} → Alike r s → r ≡ Refused wanted rest → s ≡ Refused wanted rest
+      go : {r s : Reading TextTree} → Alike r s → r ≡ Refused wanted rest → s ≡ Refused wanted rest
       go both_refuse e = e
       go both_find e = absurd (cc e)

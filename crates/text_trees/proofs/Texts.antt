@@ -1,10 +1,10 @@
 -- The tokens of a text are found to be a file exactly where the text is read as that file, and a text has one reading at most.
 use Rattle.std.proofs.Common.{◌≡◌, refl, sym, ap, ◌∙◌, subst, ℕ, List, [], ◌∷◌, ◌++◌}
 use Rattle.std.proofs.lemmas.List.{append_cancel_right}
-use Rattle.print_grammar.specs.{Token.Front, Token.Front.Ended, Token.Front.Skipped, Token.Front.Found as Begins, Token.Token, Tree.FileTree}
+use Rattle.print_grammar.specs.{Token.Front, Token.Front.Ended, Token.Front.Skipped, Token.Front.Found as Begins, Token.Token}
 use Rattle.text_tokens.specs.{Comments.front_in_text, Gaps.Follows, Gaps.Spaced, Gaps.TextTokens}
 use Rattle.text_tokens.specs.Gaps.Follows.{ended, skips, comes}
-use Rattle.text_trees.specs.{Grammar.ReadsFile, Reads.IsReadAs}
+use Rattle.text_trees.specs.{Grammar.ReadsText, Reads.IsReadAs, TextTree.TextTree}
 use Rattle.text_trees.specs.Laws.{OneReading, RefusedTextsAreNotRead, TextsAreRead, docs_here, tokens_here}
 use Rattle.text_trees.proofs.Exact.{files_are_read, one_file, refused_are_no_files}
 
@@ -56,9 +56,9 @@ one_tokens {gap} (comes {token = token} e f) g =
 -- ---- texts
 
 -- a text that is read as a file has no other tokens
-pub read_tokens : {text : List ℕ} {found : List Spaced} {file : FileTree} → TextTokens text found → IsReadAs text file
-    → ReadsFile (docs_here found) (tokens_here found) file
-read_tokens {text} {found} {file} t r = subst (λ us. ReadsFile (docs_here us) (tokens_here us) file) (one_tokens r.spelled t) r.parsed
+pub read_tokens : {text : List ℕ} {found : List Spaced} {file : TextTree} → TextTokens text found → IsReadAs text file
+    → ReadsText (docs_here found) (tokens_here found) file
+read_tokens {text} {found} {file} t r = subst (λ us. ReadsText (docs_here us) (tokens_here us) file) (one_tokens r.spelled t) r.parsed
 
 pub texts_are_read : TextsAreRead
 texts_are_read room text found file t = (

@@ -6,12 +6,13 @@ use Rattle.print_grammar.specs.Keyword.{Keyword}
 use Rattle.print_grammar.specs.Token.{Token}
 use Rattle.print_grammar.specs.Token.Mark.{OpenBrace, CloseBrace, OpenParen, CloseParen, Colon, Semi, Equals, At}
 use Rattle.print_grammar.specs.Token.Token.{Word, Key, Quoted, Punctuation}
-use Rattle.print_grammar.specs.Tree.{TypeTree, Gates, Prefix, ParamTree, FieldTree, CaseTree, LabelTree, SignatureTree, ResourceMember, Declared, PathTree, UsedName, MemberTree, ExternTree, WorldMember, ItemTree, PackageHead, PackageTree, FileTree}
+use Rattle.print_grammar.specs.Tree.{TypeTree, Gates, Prefix, ParamTree, FieldTree, CaseTree, LabelTree, SignatureTree, ResourceMember, Declared, PathTree, UsedName, MemberTree, ExternTree, WorldMember, PackageHead}
 use Rattle.print_grammar.specs.Tree.{Gates.Ungated, Gates.Since, Gates.Unstable, ResourceMember.Constructor, ResourceMember.Method, ResourceMember.Static}
 use Rattle.print_grammar.specs.Tree.Declared.{RecordOf, VariantOf, FlagsOf, EnumOf, AliasOf, ResourceOf}
 use Rattle.print_grammar.specs.Tree.{ExternTree.Path, ExternTree.NamedFunction, ExternTree.NamedPath, ExternTree.NamedInterface}
 use Rattle.print_grammar.specs.Tree.WorldMember.{WorldUse, WorldType, WorldImport, WorldExport}
-use Rattle.print_grammar.specs.Tree.{MemberTree.UseMember, MemberTree.TypeMember, MemberTree.FunctionMember, ItemTree.InterfaceItem, ItemTree.WorldItem}
+use Rattle.print_grammar.specs.Tree.{MemberTree.UseMember, MemberTree.TypeMember, MemberTree.FunctionMember}
+use Rattle.text_trees.specs.TextTree.{NestedTree, TextItem, TextTree, WorldPart, TextItem.AnInterface, TextItem.AWorld, TextItem.AName, WorldPart.Has, WorldPart.Includes}
 use Rattle.print_grammar.specs.Grammar.{IsId, Repeated, CommaList, ReadsType, ReadsParams, ReadsResult, ReadsSignature, ReadsVersionArgument, ReadsPath, ReadsUse, ReadsHead}
 
 -- what documentation stands in front of the tokens that are left
@@ -40,7 +41,8 @@ pub data ReadsMarks : Marks → List Token → Marks → List Token → Type 0 w
   unstable : {marks all : Marks} {label argument feature : List ℕ} {t : Token} {between after : List Token} → label ≡ codes "unstable"
       → argument ≡ codes "feature" → IsId t feature → marks.since ≡ None → marks.unstable ≡ None
       → ReadsMarks (record marks { unstable = Some feature }) between all after
-      → ReadsMarks marks (Punctuation At ∷ Word label ∷ Punctuation OpenParen ∷ Word argument ∷ Punctuation Equals ∷ t ∷ Punctuation CloseParen ∷ between) all after
+      → ReadsMarks marks (Punctuation At ∷ Word label ∷ Punctuation OpenParen ∷ Word argument ∷ Punctuation Equals ∷ t ∷ Punctuation CloseParen
+      ∷ between) all after
   deprecated : {marks all : Marks} {label version : List ℕ} {before between after : List Token} → label ≡ codes "deprecated" → marks.deprecated ≡ None
       → ReadsVersionArgument before version between → ReadsMarks (record marks { deprecated = Some version }) between all after
       → ReadsMarks marks (Punctuation At ∷ Word label ∷ before) all after
@@ -156,40 +158,65 @@ pub data ReadsWorldMember (docs : Documentation) : List Token → WorldMember �
   world_export : {before between after : List Token} {pre : Prefix} {e : ExternTree} → ReadsPrefix docs before pre (Key Keyword.Export ∷ between)
       → ReadsExtern docs between e after → ReadsWorldMember docs before (WorldExport pre e) after
 
--- an interface or a world (interface-item, world-item)
-pub data ReadsItem (docs : Documentation) : List Token → ItemTree → List Token → Type 0 where
+-- a name, and another after `as` (include-names-item)
+pub data ReadsOtherName : List Token → UsedName → List Token → Type 0 where
+  other_name : {t u : Token} {label own : List ℕ} {after : List Token} → IsId t label → IsId u own
+      → ReadsOtherName (t ∷ Key Keyword.As ∷ u ∷ after) (record { other = label; own = Some own }) after
+
+-- what follows `include`: a path and `;`, or a path, other names in braces and perhaps `;` (include-item)
+pub data ReadsInclusion : List Token → PathTree → List UsedName → List Token → Type 0 where
+  all_of : {before after : List Token} {path : PathTree} → ReadsPath before path (Punctuation Semi ∷ after) → ReadsInclusion before path [] after
+  all_with : {before middle after : List Token} {path : PathTree} {names : List UsedName}
+      → ReadsPath before path (Key Keyword.With ∷ Punctuation OpenBrace ∷ middle)
+      → CommaList ReadsOtherName (Punctuation CloseBrace) middle names after → ReadsInclusion before path names after
+  all_with_end : {before middle after : List Token} {path : PathTree} {names : List UsedName}
+      → ReadsPath before path (Key Keyword.With ∷ Punctuation OpenBrace ∷ middle)
+      → CommaList ReadsOtherName (Punctuation CloseBrace) middle names (Punctuation Semi ∷ after) → ReadsInclusion before path names after
+
+-- what a world of a text has: what a world has, or an inclusion (world-items)
+pub data ReadsPart (docs : Documentation) : List Token → WorldPart → List Token → Type 0 where
+  has : {before after : List Token} {it : WorldMember} → ReadsWorldMember docs before it after → ReadsPart docs before (Has it) after
+  includes : {before between after : List Token} {pre : Prefix} {path : PathTree} {names : List UsedName}
+      → ReadsPrefix docs before pre (Key Keyword.Include ∷ between) → ReadsInclusion between path names after
+      → ReadsPart docs before (Includes pre path names) after
+
+-- an interface, a world, or a name for the one that a path means (package-items, toplevel-use-item)
+pub data ReadsItem (docs : Documentation) : List Token → TextItem → List Token → Type 0 where
   interface_item : {before between after : List Token} {t : Token} {label : List ℕ} {gates : Gates} {members : List MemberTree}
       → ReadsGates before gates (Key Keyword.Interface ∷ t ∷ Punctuation OpenBrace ∷ between) → IsId t label
       → Repeated (ReadsMember docs) (Punctuation CloseBrace) between members after
-      → ReadsItem docs before (InterfaceItem (docs before) gates label members) after
-  world_item : {before between after : List Token} {t : Token} {label : List ℕ} {gates : Gates} {members : List WorldMember}
+      → ReadsItem docs before (AnInterface (docs before) gates label members) after
+  world_item : {before between after : List Token} {t : Token} {label : List ℕ} {gates : Gates} {parts : List WorldPart}
       → ReadsGates before gates (Key Keyword.World ∷ t ∷ Punctuation OpenBrace ∷ between) → IsId t label
-      → Repeated (ReadsWorldMember docs) (Punctuation CloseBrace) between members after
-      → ReadsItem docs before (WorldItem (docs before) gates label members) after
+      → Repeated (ReadsPart docs) (Punctuation CloseBrace) between parts after
+      → ReadsItem docs before (AWorld (docs before) gates label parts) after
+  name_item : {before after : List Token} {path : PathTree} → ReadsPath before path (Punctuation Semi ∷ after)
+      → ReadsItem docs (Key Keyword.Use ∷ before) (AName path None) after
+  other_name_item : {before after : List Token} {t : Token} {label : List ℕ} {path : PathTree}
+      → ReadsPath before path (Key Keyword.As ∷ t ∷ Punctuation Semi ∷ after) → IsId t label
+      → ReadsItem docs (Key Keyword.Use ∷ before) (AName path (Some label)) after
 
--- ---- packages and files
+-- ---- packages and texts
 
--- interfaces and worlds, one after the other
-pub data ReadsItems (docs : Documentation) : List Token → List ItemTree → List Token → Type 0 where
-  no_items : {after : List Token} → ReadsItems docs after [] after
-  next_item : {before between after : List Token} {item : ItemTree} {items : List ItemTree} → ReadsItem docs before item between
-      → ReadsItems docs between items after → ReadsItems docs before (item ∷ items) after
-
--- a package nested in the file (nested-package-definition)
-pub data ReadsNested (docs : Documentation) : List Token → PackageTree → List Token → Type 0 where
-  nested_package : {before middle after : List Token} {head : PackageHead} {items : List ItemTree} → ReadsHead before head (Punctuation OpenBrace ∷ middle)
+-- a package nested in the text (nested-package-definition)
+pub data ReadsNested (docs : Documentation) : List Token → NestedTree → List Token → Type 0 where
+  nested_package : {before middle after : List Token} {head : PackageHead} {items : List TextItem} → ReadsHead before head (Punctuation OpenBrace ∷ middle)
       → Repeated (ReadsItem docs) (Punctuation CloseBrace) middle items after
       → ReadsNested docs (Key Keyword.Package ∷ before) (record { head = record head { docs = docs (Key Keyword.Package ∷ before) }; items = items }) after
 
--- nested packages, and nothing more
-pub data ReadsAllNested (docs : Documentation) : List Token → List PackageTree → Type 0 where
-  nested_end : ReadsAllNested docs [] []
-  next_nested : {before between : List Token} {tree : PackageTree} {trees : List PackageTree} → ReadsNested docs before tree between
-      → ReadsAllNested docs between trees → ReadsAllNested docs before (tree ∷ trees)
+-- items and nested packages, in any order, and nothing more
+pub data ReadsRest (docs : Documentation) : List Token → List TextItem → List NestedTree → Type 0 where
+  rest_end : ReadsRest docs [] [] []
+  next_item : {before between : List Token} {item : TextItem} {items : List TextItem} {nested : List NestedTree} → ReadsItem docs before item between
+      → ReadsRest docs between items nested → ReadsRest docs before (item ∷ items) nested
+  next_nested : {before between : List Token} {items : List TextItem} {it : NestedTree} {nested : List NestedTree} → ReadsNested docs before it between
+      → ReadsRest docs between items nested → ReadsRest docs before items (it ∷ nested)
 
--- a file: its package, and then nested ones (wit-file)
-pub data ReadsFile (docs : Documentation) : List Token → FileTree → Type 0 where
-  file : {before middle after : List Token} {head : PackageHead} {items : List ItemTree} {nested : List PackageTree}
-      → ReadsHead before head (Punctuation Semi ∷ middle) → ReadsItems docs middle items after → ReadsAllNested docs after nested
-      → ReadsFile docs (Key Keyword.Package ∷ before)
-      (record { main = record { head = record head { docs = docs (Key Keyword.Package ∷ before) }; items = items }; nested = nested })
+-- a text: the name of its package, if it says so, and then items and nested packages (wit-file)
+pub data ReadsText (docs : Documentation) : List Token → TextTree → Type 0 where
+  with_name : {before middle : List Token} {head : PackageHead} {items : List TextItem} {nested : List NestedTree}
+      → ReadsHead before head (Punctuation Semi ∷ middle) → ReadsRest docs middle items nested
+      → ReadsText docs (Key Keyword.Package ∷ before)
+      (record { head = Some (record head { docs = docs (Key Keyword.Package ∷ before) }); items = items; nested = nested })
+  without_name : {before : List Token} {items : List TextItem} {nested : List NestedTree} → ReadsRest docs before items nested
+      → ReadsText docs before (record { head = None; items = items; nested = nested })

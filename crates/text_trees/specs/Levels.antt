@@ -4,12 +4,13 @@
 use Rattle.std.specs.Prelude.{Bool, true, ◌&&◌, ℕ, nat_le, suc, max}
 use Rattle.std.specs.List.{list_all}
 use Rattle.wit_model.specs.Rules.{passes}
-use Rattle.print_grammar.specs.Tree.{TypeTree, TypeTrees, ParamTree, FieldTree, CaseTree, SignatureTree, ResourceMember, Declared, MemberTree, ExternTree, WorldMember, ItemTree, PackageTree, FileTree}
+use Rattle.print_grammar.specs.Tree.{TypeTree, TypeTrees, ParamTree, FieldTree, CaseTree, SignatureTree, ResourceMember, Declared, MemberTree, ExternTree, WorldMember}
 use Rattle.print_grammar.specs.Tree.{ResourceMember.Constructor, ResourceMember.Method, ResourceMember.Static}
 use Rattle.print_grammar.specs.Tree.Declared.{RecordOf, VariantOf, FlagsOf, EnumOf, AliasOf, ResourceOf}
 use Rattle.print_grammar.specs.Tree.{ExternTree.Path, ExternTree.NamedFunction, ExternTree.NamedPath, ExternTree.NamedInterface}
-use Rattle.print_grammar.specs.Tree.{MemberTree.UseMember, MemberTree.TypeMember, MemberTree.FunctionMember, ItemTree.InterfaceItem, ItemTree.WorldItem}
+use Rattle.print_grammar.specs.Tree.{MemberTree.UseMember, MemberTree.TypeMember, MemberTree.FunctionMember}
 use Rattle.print_grammar.specs.Tree.WorldMember.{WorldUse, WorldType, WorldImport, WorldExport}
+use Rattle.text_trees.specs.TextTree.{NestedTree, TextItem, TextTree, WorldPart, TextItem.AnInterface, TextItem.AWorld, TextItem.AName, WorldPart.Has, WorldPart.Includes}
 use Rattle.print_grammar.specs.Tree.TypeTree.{PrimitiveType, Name, Handle, Own, Borrow, TupleOf, OptionOf, ListOf, FixedListOf, MapOf, Result, ResultOk, ResultErr, ResultOf, Future, FutureOf, Stream, StreamOf}
 use Rattle.print_grammar.specs.Tree.TypeTrees.{NoTypes, AndTypes}
 
@@ -87,13 +88,18 @@ fits_world_member room (WorldType prefix declared) = fits_declared room declared
 fits_world_member room (WorldImport prefix extern_) = fits_extern room extern_
 fits_world_member room (WorldExport prefix extern_) = fits_extern room extern_
 
-abbrev pub fits_item : ℕ → ItemTree → Bool
-fits_item room (InterfaceItem docs gates name members) = list_all (fits_member room) members
-fits_item room (WorldItem docs gates name members) = list_all (fits_world_member room) members
+abbrev pub fits_part : ℕ → WorldPart → Bool
+fits_part room (Has it) = fits_world_member room it
+fits_part room (Includes prefix path names) = true
 
-abbrev pub fits_package : ℕ → PackageTree → Bool
-fits_package room tree = list_all (fits_item room) tree.items
+abbrev pub fits_item : ℕ → TextItem → Bool
+fits_item room (AnInterface docs gates name members) = list_all (fits_member room) members
+fits_item room (AWorld docs gates name parts) = list_all (fits_part room) parts
+fits_item room (AName path own) = true
 
--- No type of the file has more levels than `room` where it is used, and no alias more than one beyond.
-abbrev pub fits_file : ℕ → FileTree → Bool
-fits_file room file = fits_package room file.main && list_all (fits_package room) file.nested
+abbrev pub fits_nested : ℕ → NestedTree → Bool
+fits_nested room tree = list_all (fits_item room) tree.items
+
+-- No type of the text has more levels than `room` where it is used, and no alias more than one beyond.
+abbrev pub fits_text : ℕ → TextTree → Bool
+fits_text room tree = list_all (fits_item room) tree.items && list_all (fits_nested room) tree.nested

@@ -9,3 +9,5 @@ pub mod Laws
 pub mod Seen
 pub mod TreesSeen
 pub mod Reads
+pub mod TextTree
+pub mod TextTreesSeen

@@ -16,7 +16,7 @@ pub data Wanted : Type 0 where
   AnId AVersion ANumber AString AType : Wanted
   -- what an interface, a world or a resource has
   AMember : Wanted
-  -- an interface or a world
+  -- an interface or a world, or a `use` or a package where no attribute stands in front
   AnItem : Wanted
   -- a gate or an external id that may stand there, behind `@`
   AnAttribute : Wanted

@@ -1,20 +1,20 @@
 -- What reading a text says of it.
 use Rattle.std.specs.Prelude.{◌≡◌, ◌≤◌, ◌^◌, true, ℕ, List, [], ◌∷◌, drop, length, map}
-use Rattle.print_grammar.specs.{Token.Token, Tree.FileTree}
+use Rattle.print_grammar.specs.Token.{Token}
 use Rattle.text_tokens.specs.{Gaps.Spaced, Gaps.TextTokens, Places.gaps_from, Places.HasNoTokenAt, Places.HasTokensAt, Places.Placed}
 use Rattle.text_tokens.specs.declared.token.Token.{Token as PlacedToken}
-use Rattle.text_trees.specs.Levels.{fits_file}
-use Rattle.text_trees.specs.{Reading.Reading.Refused, ReadFiles.file_in_front}
-use Rattle.text_trees.specs.{Grammar.ReadsFile, Seen.docs_by, Seen.wanted_there}
+use Rattle.text_trees.specs.{Levels.fits_text, TextTree.TextTree}
+use Rattle.text_trees.specs.{Reading.Reading.Refused, ReadFiles.text_in_front}
+use Rattle.text_trees.specs.{Grammar.ReadsText, Seen.docs_by, Seen.wanted_there}
 use Rattle.text_trees.specs.declared.refusal.Wanted.{Wanted as CodeWanted}
 use Rattle.text_trees.specs.declared.refusal.TreeError.{TreeError}
 use Rattle.text_trees.specs.declared.refusal.TreeError.TheVariants.{Memory, Size, NoToken, Wanted}
 
 -- The text is read as this tree, with its documentation.
-pub record IsReadAs (text : List ℕ) (tree : FileTree) : Type 0 where
+pub record IsReadAs (text : List ℕ) (tree : TextTree) : Type 0 where
   pub found : List Spaced
   pub spelled : TextTokens text found
-  pub parsed : ReadsFile (docs_by (map (λ s. s.gap) found)) (map (λ s. s.token) found) tree
+  pub parsed : ReadsText (docs_by (map (λ s. s.gap) found)) (map (λ s. s.token) found) tree
 
 -- the byte where the first of these tokens of a text begins, or where the text ends if there is none
 abbrev pub first_byte : List ℕ → List PlacedToken → ℕ
@@ -28,7 +28,7 @@ first_byte text (place ∷ places) = place.start
 pub record StopsAt (text : List ℕ) (places : List PlacedToken) (tokens : List Token) (w : CodeWanted) (at : ℕ) : Type 0 where
   -- how many tokens stand before the place
   pub before : ℕ
-  pub refused : file_in_front (docs_by (gaps_from text 0 places)) 100 tokens ≡ Refused (wanted_there w) (drop before tokens)
+  pub refused : text_in_front (docs_by (gaps_from text 0 places)) 100 tokens ≡ Refused (wanted_there w) (drop before tokens)
   pub byte : at ≡ first_byte text (drop before places)
 
 -- Reading the text stops at this byte, since this is wanted there. The text is no file in which no type has more than 100 levels where it is used, and no
@@ -37,7 +37,7 @@ pub record StopsReading (text : List ℕ) (w : CodeWanted) (at : ℕ) : Type 0 w
   pub places : List PlacedToken
   pub has : HasTokensAt text places
   pub stops : StopsAt text places (map (λ s. s.token) has.found) w at
-  pub none : (file : FileTree) → IsReadAs text file → fits_file 100 file ≡ true → ⊥
+  pub none : (tree : TextTree) → IsReadAs text tree → fits_text 100 tree ≡ true → ⊥
 
 -- what a refusal of a text with tokens at these places says: what is wanted, and where
 abbrev pub RefusesPlaces : List ℕ → List PlacedToken → TreeError → Type 0

@@ -1,8 +1,8 @@
 -- What trees of the code are by the grammar, in the text that their spans are of.
-use Rattle.std.specs.Prelude.{Bool, ℕ, suc, List, [], map}
+use Rattle.std.specs.Prelude.{ℕ, suc, List, [], map}
 use Rattle.std.specs.Option.{option_map}
 use Rattle.wit_model.specs.Text.{Text}
-use Rattle.print_grammar.specs.Tree.{TypeTree, TypeTrees, Gates, Prefix, ParamTree, SignatureTree, PathTree, UsedName, FieldTree, CaseTree, LabelTree, ResourceMember, Declared, MemberTree, ExternTree, WorldMember, ItemTree, PackageHead, PackageTree, FileTree}
+use Rattle.print_grammar.specs.Tree.{TypeTree, TypeTrees, Gates, Prefix, ParamTree, SignatureTree, PathTree, UsedName, FieldTree, CaseTree, LabelTree, ResourceMember, Declared, MemberTree, ExternTree, WorldMember, PackageHead}
 use Rattle.print_grammar.specs.Tree.Declared.{RecordOf, VariantOf, FlagsOf, EnumOf, AliasOf, ResourceOf}
 use Rattle.text_trees.specs.declared.tree.Declared.{Declared as CodeDeclared}
 use Rattle.text_trees.specs.declared.tree.Declared.TheVariants as sorts
@@ -14,7 +14,7 @@ use Rattle.text_trees.specs.declared.tree.PathTree.{PathTree as CodePath}
 use Rattle.text_trees.specs.declared.tree.PathTree.TheVariants as paths
 use Rattle.text_trees.specs.declared.tree.ResourceMember.{ResourceMember as CodeResourceMember}
 use Rattle.text_trees.specs.declared.tree.ResourceMember.TheVariants as members
-use Rattle.print_grammar.specs.Tree.{MemberTree.UseMember, MemberTree.TypeMember, MemberTree.FunctionMember, ItemTree.InterfaceItem, ItemTree.WorldItem}
+use Rattle.print_grammar.specs.Tree.{MemberTree.UseMember, MemberTree.TypeMember, MemberTree.FunctionMember}
 use Rattle.print_grammar.specs.Tree.{ExternTree.Path, ExternTree.NamedFunction, ExternTree.NamedPath, ExternTree.NamedInterface}
 use Rattle.print_grammar.specs.Tree.WorldMember.{WorldUse, WorldType, WorldImport, WorldExport}
 use Rattle.text_trees.specs.declared.tree.MemberTree.{MemberTree as CodeMember}
@@ -23,9 +23,7 @@ use Rattle.text_trees.specs.declared.tree.ExternTree.{ExternTree as CodeExtern}
 use Rattle.text_trees.specs.declared.tree.ExternTree.TheVariants as extern
 use Rattle.text_trees.specs.declared.tree.WorldMember.{WorldMember as CodeWorldMember}
 use Rattle.text_trees.specs.declared.tree.WorldMember.TheVariants as world
-use Rattle.text_trees.specs.declared.tree.ItemTree.{ItemTree as CodeItem}
-use Rattle.text_trees.specs.declared.tree.ItemTree.TheVariants as item
-use Rattle.text_trees.specs.declared.tree.{PackageHead.PackageHead as CodeHead, PackageTree.PackageTree as CodePackage, FileTree.FileTree as CodeFile}
+use Rattle.text_trees.specs.declared.tree.{PackageHead.PackageHead as CodeHead}
 use Rattle.text_trees.specs.declared.tree.{Prefix.Prefix as CodePrefix, UsedName.UsedName as CodeUsed, FieldTree.FieldTree as CodeField, CaseTree.CaseTree as CodeCase, LabelTree.LabelTree as CodeLabel, ParamTree.ParamTree as CodeParam, SignatureTree.SignatureTree as CodeSignature}
 use Rattle.print_grammar.specs.Tree.TypeTree.{PrimitiveType, Name, Own, Borrow, TupleOf, OptionOf, ListOf, FixedListOf, MapOf, Result, ResultOk, ResultErr, ResultOf, Future, FutureOf, Stream, StreamOf}
 use Rattle.print_grammar.specs.Tree.TypeTrees.{NoTypes, AndTypes}
@@ -36,18 +34,16 @@ use Rattle.text_tokens.specs.Documentation.{docs_in}
 use Rattle.text_trees.specs.Grammar.{Documentation, Marks}
 use Rattle.text_trees.specs.declared.{prefix.Marks.Marks as CodeMarks, tree.Span.Span}
 use Rattle.text_trees.specs.ReadDeclared.{case_in_front, declared_in_front, use_behind, field_in_front, function_behind, label_in_front, named, resource_behind}
-use Rattle.text_trees.specs.Reading.{Reading, Reading.Found, begins, behind_mark, id_in_front, if_key, if_mark, listed, made, repeated, then_read, until}
+use Rattle.text_trees.specs.Reading.{Reading, Reading.Found, behind_mark, id_in_front, if_key, if_mark, listed, made, then_read}
 use Rattle.text_trees.specs.ReadTypes.{type_in_front, in_brackets, list_in_front, map_in_front, payload_in_front, result_parts_in_front, tuple_types}
-use Rattle.text_trees.specs.ReadFiles.{ends_items, extern_path_behind, is_end, item_in_front, members_in_front, nested_in_front, package_with, world_members_in_front}
-use Rattle.text_trees.specs.declared.lists.Ends.{Ends}
-use Rattle.text_trees.specs.declared.lists.Ends.TheVariants as ends
+use Rattle.text_trees.specs.ReadFiles.{extern_path_behind, members_in_front}
 use Rattle.text_trees.specs.declared.types.Form.{Form}
 use Rattle.text_trees.specs.declared.sorts.Sort.{Sort}
 use Rattle.text_trees.specs.declared.sorts.Sort.TheVariants as sort
 use Rattle.text_trees.specs.declared.types.Form.TheVariants as form
 use Rattle.text_trees.specs.declared.types.Async.{Async}
 use Rattle.text_trees.specs.declared.types.Async.TheVariants as async
-use Rattle.text_trees.specs.Seen.{characters_of, cut, mark_there, number_of, primitive_there}
+use Rattle.text_trees.specs.Seen.{characters_of, cut, number_of, primitive_there}
 
 abbrev mutual
   -- a type
@@ -100,12 +96,6 @@ form_behind form.Map read ts = map_in_front read ts
 form_behind form.Result read ts = result_form_in_front read ts
 form_behind (form.Async which) read ts = payload_in_front (alone_of which) (carrying which) read ts
 
--- what ends things that stand one after the other
-abbrev pub ends_as : Ends → List Token → Bool
-ends_as (ends.Mark m) = begins (mark_there m)
-ends_as ends.Package = ends_items
-ends_as ends.Text = is_end
-
 -- a parameter
 abbrev pub param_of : Text → CodeParam → ParamTree
 param_of text param = record { name = cut text param.name; ty = type_of text param.ty }
@@ -140,7 +130,12 @@ docs_of text gap = docs_in (cut text gap)
 -- what stands in front of an item
 abbrev pub prefix_of : Text → CodePrefix → Prefix
 prefix_of text prefix =
-    record { docs = docs_of text prefix.docs; gates = gates_of text prefix.gates; external_id = option_map (λ span. characters_of (cut text span)) prefix.external_id }
+    record {
+      docs = docs_of text prefix.docs;
+      gates = gates_of text prefix.gates;
+      external_id =
+          option_map (λ span. characters_of (cut text span)) prefix.external_id;
+    }
 
 -- ---- paths and uses
 
@@ -233,22 +228,9 @@ world_member_of text (world.WorldType prefix declared) = WorldType (prefix_of te
 world_member_of text (world.WorldImport prefix it) = WorldImport (prefix_of text prefix) (extern_of text it)
 world_member_of text (world.WorldExport prefix it) = WorldExport (prefix_of text prefix) (extern_of text it)
 
--- an interface or a world
-abbrev pub item_of : Text → CodeItem → ItemTree
-item_of text (item.InterfaceItem docs gates name members) = InterfaceItem (docs_of text docs) (gates_of text gates) (cut text name) (map (member_of text) members.items)
-item_of text (item.WorldItem docs gates name members) = WorldItem (docs_of text docs) (gates_of text gates) (cut text name) (map (world_member_of text) members.items)
-
 -- what names a package
 abbrev pub head_of : Text → CodeHead → PackageHead
 head_of text head = record { docs = []; namespace = cut text head.namespace; name = cut text head.name; version = option_map (cut text) head.version }
-
--- a package
-abbrev pub package_of : Text → CodePackage → PackageTree
-package_of text it = package_with (docs_of text it.docs) (head_of text it.head) (map (item_of text) it.items.items)
-
--- a file
-abbrev pub file_of : Text → CodeFile → FileTree
-file_of text file = record { main = package_of text file.main; nested = map (package_of text) file.nested.items }
 
 -- what an interface has that begins with no name, behind what stands in front of it
 abbrev pub other_behind : Documentation → ℕ → Prefix → List Token → Reading MemberTree
@@ -262,26 +244,3 @@ extern_other_behind docs room name =
 -- what a world has that is no import and no export, behind what stands in front of it
 abbrev pub world_other_behind : Documentation → ℕ → Prefix → List Token → Reading WorldMember
 world_other_behind docs room prefix = if_key Keyword.Use (use_behind (WorldUse prefix)) (λ rest. made (WorldType prefix) (declared_in_front docs room rest))
-
--- an interface, behind its word
-abbrev pub interface_in_front : Documentation → ℕ → List Text → Gates → List Token → Reading ItemTree
-interface_in_front docs room lines gates = named (λ name rest. made (InterfaceItem lines gates name) (members_in_front docs room rest))
-
--- a world, behind its word
-abbrev pub world_in_front : Documentation → ℕ → List Text → Gates → List Token → Reading ItemTree
-world_in_front docs room lines gates = named (λ name rest. made (WorldItem lines gates name) (world_members_in_front docs room rest))
-
--- a nested package, behind what names it
-abbrev pub package_behind : Documentation → ℕ → List Text → PackageHead → List Token → Reading PackageTree
-package_behind docs room lines head =
-    behind_mark OpenBrace (λ rest. made (package_with lines head) (repeated (item_in_front docs room) CloseBrace rest))
-
--- the packages nested in a file, behind the items of its own
-abbrev pub nested_behind : Documentation → ℕ → List Text → PackageHead → List ItemTree → List Token → Reading FileTree
-nested_behind docs room lines head items rest =
-    made (λ nested. record { main = package_with lines head items; nested = nested }) (until is_end (nested_in_front docs room) rest)
-
--- a file, behind what names its package
-abbrev pub file_behind : Documentation → ℕ → List Text → PackageHead → List Token → Reading FileTree
-file_behind docs room lines head =
-    behind_mark Semi (λ rest. then_read (until ends_items (item_in_front docs room) rest) (nested_behind docs room lines head))

@@ -6,13 +6,13 @@ ghost use Rattle.text_tokens.specs.Places.{Placed};
 ghost use Rattle.text_tokens.specs.declared.token.Token.{Token as PlacedToken};
 ghost use Rattle.text_trees.specs.{Reads.StopsReading, Seen.said};
 ghost use Rattle.text_trees.specs.declared.refusal.Wanted.{Wanted};
-ghost use Rattle.print_grammar.specs.{Token.Mark.Arrow, Token.Mark.At, Token.Mark.CloseBrace, Token.Mark.CloseParen, Token.Mark.Colon, Token.Mark.Greater, Token.Mark.Less, Token.Token};
+ghost use Rattle.print_grammar.specs.{Token.Mark.Arrow, Token.Mark.At, Token.Mark.CloseBrace, Token.Mark.CloseParen, Token.Mark.Colon, Token.Mark.Greater, Token.Mark.Less, Token.Mark.Semi, Token.Token};
 ghost use Rattle.print_grammar.specs.Grammar.{ReadsPath, ReadsSignature, ReadsType};
-ghost use Rattle.text_trees.specs.Grammar.{Documentation, ReadsDeclared, ReadsExtern, ReadsItem, ReadsMember, ReadsNested, ReadsPrefix, ReadsResourceMember, ReadsWorldMember};
+ghost use Rattle.text_trees.specs.Grammar.{Documentation, ReadsDeclared, ReadsExtern, ReadsItem, ReadsMember, ReadsNested, ReadsOtherName, ReadsPart, ReadsPrefix, ReadsResourceMember, ReadsWorldMember};
 ghost use Rattle.text_trees.specs.{Reading.begins, ReadTypes.param_in_front, ReadTypes.signature_in_front, ReadTypes.type_in_front};
 ghost use Rattle.text_trees.specs.ReadDeclared.{case_in_front, declared_in_front, field_in_front, label_in_front, path_in_front, prefix_in_front, resource_member_in_front, used_name_in_front};
-ghost use Rattle.text_trees.specs.ReadFiles.{ends_items, extern_in_front, is_end, item_in_front, member_in_front, nested_in_front, world_member_in_front};
-ghost use Rattle.text_trees.specs.Levels.{fits_declared, fits_extern, fits_item, fits_member, fits_package, fits_resource_member, fits_signature, fits_type, fits_world_member};
+ghost use Rattle.text_trees.specs.ReadFiles.{extern_in_front, is_end, item_in_front, member_in_front, nested_in_front, other_name_in_front, part_in_front, piece_in_front, world_member_in_front};
+ghost use Rattle.text_trees.specs.Levels.{fits_declared, fits_extern, fits_item, fits_member, fits_nested, fits_part, fits_resource_member, fits_signature, fits_type, fits_world_member};
 ghost use Rattle.text_trees.specs.Laws.{FilesAreRead, FindsBefore, FindsNothingElse, FindsWhatIsRead, FoundFilesAreOnly, ListedOneByOne, NoFileBeginsSo, OneByOne, OneReading, PrintedFilesAreFound, PrintedTextsAreRead, RefusalsStandAtPlaces, RefusedAreNoFiles, RefusedTextsAreNotRead, ShallowFilesAreFound, TextsAreRead};
 
 use print_grammar::laws::well_named_file_reads;
@@ -45,12 +45,13 @@ pub fn lists_are_read_one_by_one()
     ensures cases { (docs : Documentation) (room : ℕ) → ListedOneByOne (case_in_front docs room) CloseBrace }
     ensures labels { (docs : Documentation) → ListedOneByOne (label_in_front docs) CloseBrace }
     ensures used { ListedOneByOne used_name_in_front CloseBrace }
+    ensures others { ListedOneByOne other_name_in_front CloseBrace }
     ensures functions { (docs : Documentation) (room : ℕ) → OneByOne (begins CloseBrace) (resource_member_in_front docs room) }
     ensures members { (docs : Documentation) (room : ℕ) → OneByOne (begins CloseBrace) (member_in_front docs room) }
     ensures world_members { (docs : Documentation) (room : ℕ) → OneByOne (begins CloseBrace) (world_member_in_front docs room) }
-    ensures nested_items { (docs : Documentation) (room : ℕ) → OneByOne (begins CloseBrace) (item_in_front docs room) }
-    ensures items { (docs : Documentation) (room : ℕ) → OneByOne ends_items (item_in_front docs room) }
-    ensures packages { (docs : Documentation) (room : ℕ) → OneByOne is_end (nested_in_front docs room) }
+    ensures parts { (docs : Documentation) (room : ℕ) → OneByOne (begins CloseBrace) (part_in_front docs room) }
+    ensures items { (docs : Documentation) (room : ℕ) → OneByOne (begins CloseBrace) (item_in_front docs room) }
+    ensures pieces { (docs : Documentation) (room : ℕ) → OneByOne is_end (piece_in_front docs room) }
 {}
 
 /// Declared types and the functions of resources are found exactly where they are there.
@@ -68,10 +69,19 @@ pub fn members_are_read()
         → FindsWhatIsRead (ReadsWorldMember docs) (fits_world_member room) (world_member_in_front docs room) }
 {}
 
-/// Interfaces, worlds and nested packages are found exactly where they are there.
+/// What worlds of texts have, with inclusions, is there where it is found, and is found where it is there and no `;` follows it. Names and others after `as`
+/// are found exactly where they are there.
+pub fn world_parts_are_read()
+    ensures found { (docs : Documentation) (room : ℕ) → FindsNothingElse (ReadsPart docs) (fits_part room) (part_in_front docs room) }
+    ensures there { (docs : Documentation) (room : ℕ)
+        → FindsBefore (λ rest. begins Semi rest ≡ false) (ReadsPart docs) (fits_part room) (part_in_front docs room) }
+    ensures names { FindsWhatIsRead ReadsOtherName (λ name. true) other_name_in_front }
+{}
+
+/// Interfaces, worlds, names for what paths mean, and nested packages are found exactly where they are there.
 pub fn items_are_read()
     ensures items { (docs : Documentation) (room : ℕ) → FindsWhatIsRead (ReadsItem docs) (fits_item room) (item_in_front docs room) }
-    ensures packages { (docs : Documentation) (room : ℕ) → FindsWhatIsRead (ReadsNested docs) (fits_package room) (nested_in_front docs room) }
+    ensures packages { (docs : Documentation) (room : ℕ) → FindsWhatIsRead (ReadsNested docs) (fits_nested room) (nested_in_front docs room) }
 {}
 
 /// Tokens are found to be a file exactly where they are that file and no other, and are refused where they are none.

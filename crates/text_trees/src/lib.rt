@@ -3,13 +3,14 @@
 
 mod declared;
 mod externs;
-mod files;
 mod front;
 mod items;
 mod keywords;
 pub mod laws;
 mod lists;
 mod members;
+mod packages;
+mod parts;
 mod paths;
 mod prefix;
 mod read;
@@ -24,7 +25,7 @@ mod worlds;
 pub use read::read_tree;
 pub use refusal::{TreeError, Wanted, Word};
 pub use tree::{
-    CaseTree, Declared, ExternTree, FieldTree, FileTree, Gates, ItemTree, LabelTree, MemberTree,
-    PackageHead, PackageTree, ParamTree, PathTree, Prefix, ResourceMember, SignatureTree, Span,
-    TypeTree, UsedName, WorldMember,
+    CaseTree, Declared, ExternTree, FieldTree, Gates, LabelTree, MemberTree, NestedTree,
+    PackageHead, ParamTree, PathTree, Prefix, ResourceMember, SignatureTree, Span, TextItem,
+    TextTree, TypeTree, UsedName, WorldMember, WorldPart,
 };

@@ -1,16 +1,15 @@
-//! Things one after the other: with commas between, or up to what ends them.
+//! Things one after the other: with commas between, or up to a mark that closes them.
 
 ghost use Rattle.std.specs.Prelude.{◌≡◌, ◌<◌, ◌≤◌, ℕ, List, IfErr, IfOk, map, true};
 ghost use Rattle.print_grammar.specs.Token.{Token as GrammarToken};
 ghost use Rattle.text_trees.specs.Grammar.{Documentation};
-ghost use Rattle.text_trees.specs.Reading.{Reading, Reading.Found, listed, repeated, until};
+ghost use Rattle.text_trees.specs.Reading.{Reading, Reading.Found, begins as begins_lem, listed, repeated, until};
 ghost use Rattle.text_trees.specs.Seen.{RefusesAs, ahead, count_of, docs_ahead, mark_there, text_of};
-ghost use Rattle.text_trees.specs.TreesSeen.{ends_as};
 
-use crate::front::{Tokens, begins, begins_key, is_end, mark_at, more_at};
+use crate::front::{Tokens, begins, mark_at, more_at};
 use crate::refusal::Refusal;
 use std::alloc::Global;
-use text_tokens::{Keyword, Mark};
+use text_tokens::Mark;
 
 /// What is read from the front of tokens.
 pub(crate) trait Form {
@@ -58,51 +57,26 @@ pub(crate) fn listed_at<T: Form + Drop>(
     }
 }
 
-/// What ends things that stand one after the other.
-#[derive(Clone, Copy)]
-pub(crate) enum Ends {
-    Mark(Mark),
-    /// The word `package`, or the end of the text.
-    Package,
-    /// The end of the text.
-    Text,
-}
-
-fn ends_at(tokens: &Tokens<'_>, ends: Ends, at: usize) -> bool
-    ensures { result ≡ ends_as ends (ahead tokens.now at) }
-{
-    match ends {
-        Ends::Mark(mark) => begins(tokens, mark, at),
-        Ends::Package => {
-            if is_end(tokens, at) {
-                true
-            } else {
-                begins_key(tokens, Keyword::Package, at)
-            }
-        }
-        Ends::Text => is_end(tokens, at),
-    }
-}
-
-/// Things one after the other, up to what ends them, and the place where that stands.
-pub(crate) fn until_at<T: Form + Drop>(
+/// Things one after the other, up to a closing mark, and the place where that stands.
+fn until_at<T: Form + Drop>(
     alloc: Global,
     tokens: &Tokens<'_>,
-    ends: Ends,
+    close: Mark,
     at: usize,
 ) -> Result<(Vec<T>, usize), Refusal>
     requires { at ≤ count_of tokens.now }
-    ensures ok { IfOk result (λ r. until (ends_as ends) (T.reader (docs_ahead tokens.now)) (ahead tokens.now at)
+    ensures ok { IfOk result (λ r. until (begins_lem (mark_there close)) (T.reader (docs_ahead tokens.now)) (ahead tokens.now at)
         ≡ Found (map (T.view (text_of tokens.now)) r.0.items) (ahead tokens.now r.1)) }
-    ensures err { IfErr result (λ e. RefusesAs tokens.now e (until (ends_as ends) (T.reader (docs_ahead tokens.now)) (ahead tokens.now at))) }
-    ensures ended { IfOk result (λ r. ends_as ends (ahead tokens.now r.1) ≡ true) }
+    ensures err { IfErr result (λ e. RefusesAs tokens.now e
+        (until (begins_lem (mark_there close)) (T.reader (docs_ahead tokens.now)) (ahead tokens.now at))) }
+    ensures ended { IfOk result (λ r. begins_lem (mark_there close) (ahead tokens.now r.1) ≡ true) }
     ensures goes { IfOk result (λ r. at ≤ r.1) }
     ensures within { IfOk result (λ r. r.1 ≤ count_of tokens.now) }
 {
     let mut items = Vec::new(alloc);
     let mut from = at;
     'items: loop {
-        if ends_at(tokens, ends, from) {
+        if begins(tokens, close, from) {
             return Ok((items, from));
         }
         let (item, behind) = T::read(alloc, tokens, from)?;
@@ -126,7 +100,7 @@ pub(crate) fn repeated_at<T: Form + Drop>(
     ensures goes { IfOk result (λ r. at < r.1) }
     ensures within { IfOk result (λ r. r.1 ≤ count_of tokens.now) }
 {
-    let (items, end) = until_at(alloc, tokens, Ends::Mark(close), at)?;
+    let (items, end) = until_at(alloc, tokens, close, at)?;
     let behind = mark_at(tokens, close, end)?;
     Ok((items, behind))
 }

@@ -59,7 +59,7 @@ pub(crate) fn path_behind_at(
 }
 
 /// A path: a name alone, or with its package and perhaps a version; and the place behind it.
-fn path_at(tokens: &Tokens<'_>, at: usize) -> Result<(PathTree, usize), Refusal>
+pub(crate) fn path_at(tokens: &Tokens<'_>, at: usize) -> Result<(PathTree, usize), Refusal>
     requires { at ≤ count_of tokens.now }
     ensures ok { IfOk result (λ r. path_in_front (ahead tokens.now at) ≡ Found (path_of (text_of tokens.now) r.0) (ahead tokens.now r.1)) }
     ensures err { IfErr result (λ e. RefusesAs tokens.now e (path_in_front (ahead tokens.now at))) }

@@ -149,13 +149,6 @@ pub enum WorldMember {
     WorldExport(Prefix, ExternTree),
 }
 
-/// An interface or a world: the gap with its documentation, its gates, its name, and what it has.
-#[derive(Drop)]
-pub enum ItemTree {
-    InterfaceItem(Span, Gates, Span, Vec<MemberTree>),
-    WorldItem(Span, Gates, Span, Vec<WorldMember>),
-}
-
 /// A package's namespace, name and version (WIT.md, Package declaration).
 #[derive(Clone, Copy, Debug, PartialEq, Eq)]
 pub struct PackageHead {
@@ -164,17 +157,37 @@ pub struct PackageHead {
     pub version: Option<Span>,
 }
 
-/// A package: the gap with its documentation, what names it, and items.
+/// What a world of a text has (WIT.md, Item: world, Item: include).
 #[derive(Drop)]
-pub struct PackageTree {
-    pub docs: Span,
-    pub head: PackageHead,
-    pub items: Vec<ItemTree>,
+pub enum WorldPart {
+    Has(WorldMember),
+    /// All that the world of a path has, with other names for some of it.
+    Includes(Prefix, PathTree, Vec<UsedName>),
 }
 
-/// A file: the package that it begins with, and the nested ones (WIT.md, Top-level items).
+/// An item of a text: an interface or a world, with the gap with its documentation, its gates, its name and what it has. Or a name for the one that a path
+/// means: its last name, or another (WIT.md, Item: toplevel-use).
 #[derive(Drop)]
-pub struct FileTree {
-    pub main: PackageTree,
-    pub nested: Vec<PackageTree>,
+pub enum TextItem {
+    AnInterface(Span, Gates, Span, Vec<MemberTree>),
+    AWorld(Span, Gates, Span, Vec<WorldPart>),
+    AName(PathTree, Option<Span>),
+}
+
+/// A package that is nested in a text: the gap with its documentation, what names it, and items.
+#[derive(Drop)]
+pub struct NestedTree {
+    pub docs: Span,
+    pub head: PackageHead,
+    pub items: Vec<TextItem>,
+}
+
+/// A text: the gap in front of it, which has its package's documentation where it names one, what names its package, if it says so, its items, and the nested
+/// packages.
+#[derive(Drop)]
+pub struct TextTree {
+    pub docs: Span,
+    pub head: Option<PackageHead>,
+    pub items: Vec<TextItem>,
+    pub nested: Vec<NestedTree>,
 }

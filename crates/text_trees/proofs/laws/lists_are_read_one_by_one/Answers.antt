@@ -1,7 +1,7 @@
 use Rattle.print_grammar.specs.Token.Mark.{CloseBrace, CloseParen, Greater}
-use Rattle.text_trees.specs.{Reading.begins, ReadFiles.ends_items, ReadFiles.is_end}
+use Rattle.text_trees.specs.{Reading.begins, ReadFiles.is_end}
 use Rattle.text_trees.proofs.OneByOne.{until_one_by_one, listed_one_by_one}
-use Rattle.text_trees.proofs.SteadyFiles.{type-shrinks, param-shrinks, field-shrinks, case-shrinks, label-shrinks, used_name-shrinks, resource_member-shrinks, member-shrinks, world_member-shrinks, item-shrinks, nested-shrinks}
+use Rattle.text_trees.proofs.SteadyFiles.{type-shrinks, param-shrinks, field-shrinks, case-shrinks, label-shrinks, used_name-shrinks, resource_member-shrinks, member-shrinks, world_member-shrinks, other_name-shrinks, part-shrinks, item-shrinks, piece-shrinks}
 use Rattle.text_trees.proofs.laws.lists_are_read_one_by_one.Goals as goal
 
 pub returns-clause-types : goal.returns-clause-types
@@ -22,6 +22,9 @@ returns-clause-labels c = λ docs. listed_one_by_one (label-shrinks docs) CloseB
 pub returns-clause-used : goal.returns-clause-used
 returns-clause-used c = listed_one_by_one used_name-shrinks CloseBrace
 
+pub returns-clause-others : goal.returns-clause-others
+returns-clause-others c = listed_one_by_one other_name-shrinks CloseBrace
+
 pub returns-clause-functions : goal.returns-clause-functions
 returns-clause-functions c = λ docs room. until_one_by_one (resource_member-shrinks docs room) (begins CloseBrace)
 
@@ -31,11 +34,11 @@ returns-clause-members c = λ docs room. until_one_by_one (member-shrinks docs r
 pub returns-clause-world_members : goal.returns-clause-world_members
 returns-clause-world_members c = λ docs room. until_one_by_one (world_member-shrinks docs room) (begins CloseBrace)
 
-pub returns-clause-nested_items : goal.returns-clause-nested_items
-returns-clause-nested_items c = λ docs room. until_one_by_one (item-shrinks docs room) (begins CloseBrace)
+pub returns-clause-parts : goal.returns-clause-parts
+returns-clause-parts c = λ docs room. until_one_by_one (part-shrinks docs room) (begins CloseBrace)
 
 pub returns-clause-items : goal.returns-clause-items
-returns-clause-items c = λ docs room. until_one_by_one (item-shrinks docs room) ends_items
+returns-clause-items c = λ docs room. until_one_by_one (item-shrinks docs room) (begins CloseBrace)
 
-pub returns-clause-packages : goal.returns-clause-packages
-returns-clause-packages c = λ docs room. until_one_by_one (nested-shrinks docs room) is_end
+pub returns-clause-pieces : goal.returns-clause-pieces
+returns-clause-pieces c = λ docs room. until_one_by_one (piece-shrinks docs room) is_end

@@ -1,6 +1,6 @@
 use Rattle.text_trees.specs.declared.front.Tokens.{Tokens}
 use Rattle.text_trees.specs.Seen.{ahead}
-use Rattle.text_trees.specs.TreesSeen.{file_of}
+use Rattle.text_trees.specs.TextTreesSeen.{tree_of}
 use Rattle.text_trees.proofs.Trees.{tree_found, tree_refused_as, tree_shallow}
 use Rattle.text_trees.proofs.read.tree_of.Goals as goal
 
@@ -12,9 +12,9 @@ returns-in-Err-Wanted-clause-err c =
 pub returns-in-Ok-clause-ok : goal.returns-in-Ok-clause-ok
 returns-in-Ok-clause-ok c =
     let them : Tokens = record { text = c.args.text; places = c.args.places } in
-    tree_found them (file_of c.args.text.now c.in-Ok.file) (ahead them c.in-Ok.field-0-1) c.in-Ok.ensures.ok
+    tree_found them (tree_of c.args.text.now c.in-Ok.tree) (ahead them c.in-Ok.field-0-1) c.in-Ok.ensures.ok
 
 pub returns-in-Ok-clause-shallow : goal.returns-in-Ok-clause-shallow
 returns-in-Ok-clause-shallow c =
     let them : Tokens = record { text = c.args.text; places = c.args.places } in
-    tree_shallow them (file_of c.args.text.now c.in-Ok.file) (ahead them c.in-Ok.field-0-1) c.in-Ok.ensures.ok
+    tree_shallow them (tree_of c.args.text.now c.in-Ok.tree) (ahead them c.in-Ok.field-0-1) c.in-Ok.ensures.ok
