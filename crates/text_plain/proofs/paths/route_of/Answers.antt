@@ -1,0 +1,21 @@
+use Rattle.std.proofs.Common.{◌∙◌, ap, sym}
+use Rattle.std.specs.Map.{lookup}
+use Rattle.std.specs.Option.{option_map_or}
+use Rattle.wit_model.specs.Text.{text_eq}
+use Rattle.text_trees.specs.Seen.{cut}
+use Rattle.print_grammar.specs.Tree.PathTree.{Local}
+use Rattle.text_trees.specs.TreesSeen.{path_of}
+use Rattle.text_plain.specs.Moved.{routed}
+use Rattle.text_plain.specs.Moves.{text_from, text_to, table_routes}
+use Rattle.text_plain.proofs.Tables.{path_there}
+use Rattle.text_plain.proofs.paths.route_of.Goals as goal
+
+pub returns-in-Some : goal.returns-in-Some
+returns-in-Some c =
+    let to = text_to c.args.moving.now in
+    let name = cut (text_from c.args.moving.now) c.args.name in
+    let entries = c.in-Some.routes.now.entries in
+    ap (λ t. routed (table_routes to t) (Local name)) c.in-Some.is
+    ∙ (path_there to name entries
+    ∙ ap (λ o. option_map_or (path_of to) o (Local name))
+    (ap (λ t. lookup (λ k. text_eq t k.now) entries) (sym c.cut.ensures) ∙ sym (c.copied.ensures ∙ c.get.ensures.value)))

@@ -1,0 +1,15 @@
+pub mod Expanding
+pub mod Faults
+pub mod Files
+pub mod FilesSeen
+pub mod Keys
+pub mod Merging
+pub mod Moved
+pub mod Moves
+pub mod Needs
+pub mod Orders
+pub mod Places
+pub mod Plain
+pub mod Scopes
+pub mod Walks
+pub mod Worlds
