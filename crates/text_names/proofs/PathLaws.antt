@@ -11,10 +11,10 @@ use Rattle.text_trees.specs.declared.tree.PathTree.TheVariants.{Full}
 use Rattle.text_names.specs.declared.error.Fault.{Fault}
 use Rattle.text_names.specs.declared.error.Fault.TheVariants as faults
 use Rattle.text_names.specs.declared.needs.Need.{Need}
-use Rattle.text_names.specs.Orders.{AreWithin, links_of, needed}
+use Rattle.text_names.specs.Orders.{links_of}
 use Rattle.text_names.proofs.WalkLaws.{links_long, needed_of}
 use Rattle.wit_model.proofs.Elements.{contains-get}
-use Rattle.text_names.proofs.TableLaws.{none_fresh, same_texts, some_number, turned}
+use Rattle.text_names.proofs.TableLaws.{none_fresh, same_texts, some_number}
 use Rattle.wit_model.specs.Text.{Text}
 use Rattle.text_trees.specs.Seen.{cut}
 use Rattle.text_trees.specs.declared.tree.{MemberTree.MemberTree, PathTree.PathTree, Span.Span}
@@ -25,6 +25,8 @@ use Rattle.text_names.specs.declared.sources.Named.TheVariants as named
 use Rattle.text_names.specs.Contents.{text_at}
 use Rattle.text_names.specs.Paths.{IsHome, IsInterfaceOf, IsNamed, IsNeedOf, IsNeedsOf, IsRefusalOf, AddsNeeds, RefusesAnyNeed, RefusesNeed, name_in, no_interface, no_package, path_of_use, paths_of}
 use Rattle.text_names.specs.Tables.{IsIndex, IsNumberOf, entry_of, head_of_key, interface_in, interface_key}
+use Rattle.text_plain.proofs.WholeLaws.{turned}
+use Rattle.text_plain.specs.Orders.{AreWithin, needed}
 
 interface_found : (o : Option Named) (n : ℕ) → interface_in o ≡ Some n → o ≡ Some (named.Interface n)
 interface_found None n e = absurd cc

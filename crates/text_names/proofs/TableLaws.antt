@@ -6,8 +6,8 @@ use Rattle.std.specs.{HashMap.HashMap, HashSet.HashSet}
 use Rattle.keyed_hash.specs.declared.KeyedHash.{KeyedHash}
 use Rattle.std.specs.List.{AllZip, enumerate_from, flat_map, list_any, position}
 use Rattle.std.specs.Map.{lookup}
-use Rattle.std.proofs.lemmas.{List.Quantifiers.position-Some, Option.slice_get-get_or, Option.slice_get_read, Option.slice_get_within, Grind.flat_map-append, List.length-take-le, List.take-append-drop, List.map-append, List.Elements.filter-append}
-use Rattle.base_lemmas.proofs.Lists.{append_none, at_last, front_at, front_more, take_found, last_or, none_there, mapped_get, get_back, append_of_map, length_of_map}
+use Rattle.std.proofs.lemmas.{List.Quantifiers.position-Some, Option.slice_get-get_or, Option.slice_get_within, Grind.flat_map-append, List.length-take-le, List.take-append-drop, List.map-append, List.Elements.filter-append}
+use Rattle.base_lemmas.proofs.Lists.{append_none, at_last, front_at, front_more, last_or, none_there, mapped_get, get_back, append_of_map, length_of_map}
 use Rattle.base_lemmas.proofs.Elements.{any-at, get-contains, zip-append, zip-kept, zip_at, zip_at_right, filter_kept, filter_keeps}
 use Rattle.wit_model.specs.Text.{Text, text_eq}
 use Rattle.indexmap.specs.IndexMap.{insert_entry}
@@ -27,6 +27,7 @@ use Rattle.text_names.specs.declared.source.Source.{Source}
 use Rattle.text_names.specs.Contents.{Item, AreFirsts, no_more, known, comes, AreNamedApart, IsFaultOf, IsTwice, all_heads, all_items, all_mains, heads_in, is_interface, item_in, items_in, items_of, main_of, name_of, packages_in, text_at}
 use Rattle.text_names.specs.Tables.{Adds, AddsItems, AddsPackages, Declares, Entries, Fails, FailsItems, FailsPackages, Finds, IsIndex, IsInterface, IsNumberOf, IsWorld, Numbers, Puts, PutsOrStands, entry_of, head_of_key, head_there, heads_of, interface_key, world_key}
 use Rattle.wit_model.proofs.Elements.{contains-get}
+use Rattle.text_plain.proofs.WholeLaws.{turned}
 
 -- ---- keys
 
@@ -589,9 +590,6 @@ items_more a b c n t xs ys x y = record {
       (y.adds head ((x.adds head e).grows n head e)) in
       adds_same a c [] [] (map f xs ++ map f ys) (map f (xs ++ ys)) [] refl (sym (map-append f xs ys)) (adds_on a b c [] [] (map f xs) (map f ys) [] [] (x.adds head e) second);
 }
-
-pub turned : {X : Type 0} (xs : List X) (i : ℕ) (x : X) → i < length xs → x ≡ get_or xs i x → take (i + 1) xs ≡ take i xs ++ x ∷ []
-turned xs i x below is = take_found xs i x (slice_get_read xs (length xs) i x refl below is)
 
 pub items_turn : (a b c : Sources) (n t : ℕ) (xs : List CodeItem) (i : ℕ) (x : CodeItem) → i < length xs → x ≡ get_or xs i x
     → AddsItems a b n t (take i xs) → AddsItems b c n t (x ∷ []) → AddsItems a c n t (take (i + 1) xs)

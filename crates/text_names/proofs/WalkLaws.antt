@@ -1,5 +1,5 @@
 -- A walk along needs keeps what is said of it at each step, and comes to its end.
-use Rattle.std.proofs.Common.{◌≡◌, ◌≢◌, refl, sym, ap, ◌∙◌, subst, ℕ, zero, suc, ◌+◌, ◌-◌, ◌<◌, ◌≤◌, ◌⊎◌, inl, inr, arith, List, [], ◌∷◌, ◌++◌, length, Option, Some, None, Contains, slice_get, slice_set, sum_by, Vec, map, length-append, replicate, unwrap_or, get_or}
+use Rattle.std.proofs.Common.{◌≡◌, refl, sym, ap, ◌∙◌, subst, ℕ, zero, suc, ◌+◌, ◌-◌, ◌<◌, ◌≤◌, inl, inr, arith, List, [], ◌∷◌, ◌++◌, length, Option, Some, None, Contains, slice_get, slice_set, sum_by, Vec, map, length-append, replicate, unwrap_or, get_or}
 use Rattle.std.proofs.lemmas.{Option.slice_get_within, Option.slice_get_read, List.Elements.Contains-append_left, List.Elements.Contains-append_right, Bool.cases_eq, List.Sums.sum_by-append, List.get_or-replicate, Option.get_or_from_slice_get}
 use Rattle.std.specs.Global.{Global}
 use Rattle.std.proofs.Math.ListN.{length-replicate}
@@ -10,27 +10,11 @@ use Rattle.base_lemmas.proofs.Elements.{get-contains, contains-one}
 use Rattle.wit_model.proofs.Elements.{contains-get}
 use Rattle.text_names.specs.declared.order.State.{State}
 use Rattle.text_names.specs.declared.order.State.TheVariants.{New, Open, Done}
-use Rattle.text_names.specs.Orders.{links_of, needed, Needs, AreWithin, ClosesCycle, Reaches, here, onward, IsOrder, StandsBefore}
+use Rattle.text_names.specs.Orders.{links_of, ClosesCycle, Reaches, here, onward, IsOrder, StandsBefore}
 use Rattle.text_names.specs.Walks.{Arrives, Goes, IsMet, IsOnPath, IsWalk, KeepsMet, WalksOn, left_new, steps_left}
 use Rattle.text_names.specs.declared.order.Walk.{Walk}
-
--- ---- places of lists
-
-set_at : {X : Type 0} (xs : List X) (i : ℕ) (y x : X) → slice_get xs i ≡ Some x → slice_get (slice_set xs i y) i ≡ Some y
-set_at [] i y x e = absurd (none_there i x e)
-set_at (z ∷ xs) zero y x e = refl
-set_at (z ∷ xs) (suc i) y x e = set_at xs i y x e
-
--- what stands at a place after another was set
-set_back : {X : Type 0} (xs : List X) (i : ℕ) (y old : X) → slice_get xs i ≡ Some old → (v : ℕ) (s : X) → slice_get (slice_set xs i y) v ≡ Some s
-    → ((v ≡ i) × (s ≡ y)) ⊎ ((v ≢ i) × (slice_get xs v ≡ Some s))
-set_back xs i y old is v s e = elim (cases_eq v i) [
-  | inl same ↦ inl (same, let there = set_at xs i y old is in let moved : slice_get (slice_set xs i y) i ≡ Some s = subst (λ (k : ℕ). slice_get (slice_set xs i y) k ≡ Some s) same e in cc)
-  | inr apart ↦ inr (apart, sym (set_there xs i v y apart) ∙ e)
-]
-
-moved : {X : Type 0} (xs : List X) (v w : ℕ) (s : X) → v ≡ w → slice_get xs v ≡ Some s → slice_get xs w ≡ Some s
-moved xs v w s same e = subst (λ (k : ℕ). slice_get xs k ≡ Some s) same e
+use Rattle.text_plain.proofs.WalkLaws.{moved, set_at, set_back}
+use Rattle.text_plain.specs.Orders.{AreWithin, Needs, needed}
 
 new_open : (s : State) → s ≡ New → s ≡ Open → ⊥
 new_open s a b = cc

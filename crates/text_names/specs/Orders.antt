@@ -4,31 +4,16 @@ use Rattle.std.specs.Global.{Global}
 use Rattle.text_names.specs.declared.needs.Need.{Need}
 use Rattle.text_names.specs.declared.order.Order.{Order}
 use Rattle.text_names.specs.declared.order.Order.TheVariants.{Numbers, Cycle}
+use Rattle.text_plain.specs.Orders.{AreApart, AreWithin, Needs, needed}
 
 -- the numbers that each needs
 abbrev pub links_of : List (Vec Need Global) → List (List ℕ)
 links_of needs = map (λ own. map (λ need. need.number) own.items) needs
 
--- what the one of this number needs
-abbrev pub needed : List (List ℕ) → ℕ → List ℕ
-needed links n = unwrap_or (slice_get links n) []
-
--- The one of this number needs the other.
-abbrev pub Needs : List (List ℕ) → ℕ → ℕ → Type 0
-Needs links n m = Contains (needed links n) m
-
--- What is needed is among them.
-abbrev pub AreWithin : List (List ℕ) → Type 0
-AreWithin links = (n m : ℕ) → Needs links n m → m < length links
-
 -- From the one number the other is reached along needs, in any number of steps.
 pub data Reaches (links : List (List ℕ)) : ℕ → ℕ → Type 0 where
   here : (n : ℕ) → Reaches links n n
   onward : (n m k : ℕ) → Needs links n m → Reaches links m k → Reaches links n k
-
--- None stands twice.
-abbrev pub AreApart : List ℕ → Type 0
-AreApart ns = (i j n : ℕ) → slice_get ns i ≡ Some n → slice_get ns j ≡ Some n → i ≡ j
 
 -- The other stands before this place.
 pub record StandsBefore (ns : List ℕ) (i m : ℕ) : Type 0 where

@@ -5,7 +5,8 @@ use Rattle.text_names.specs.declared.needs.Need.{Need}
 use Rattle.text_names.specs.declared.order.State.{State}
 use Rattle.text_names.specs.declared.order.State.TheVariants.{New, Open, Done}
 use Rattle.text_names.specs.declared.order.Walk.{Walk}
-use Rattle.text_names.specs.Orders.{needed, links_of, AreApart, StandBehind, ClosesCycle}
+use Rattle.text_names.specs.Orders.{links_of, StandBehind, ClosesCycle}
+use Rattle.text_plain.specs.Orders.{AreApart, needed}
 
 -- The number stands on the path.
 pub record IsOnPath (path : List (ℕ × ℕ)) (n : ℕ) : Type 0 where

@@ -19,7 +19,7 @@ pub enum Why {
     #[error("expected {0}")]
     Wanted(Wanted),
     /// No text of the folder names its package.
-    #[error("no text of the folder names its package")]
+    #[error("no `package` in this text, nor in another of its folder")]
     NoHead,
     /// No text has this package.
     #[error("no text has this package")]

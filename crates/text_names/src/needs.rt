@@ -2,9 +2,10 @@
 
 ghost use Rattle.std.specs.Prelude.{◌≡◌, ◌∷◌, [], IfOk, IfErr, OnOk};
 ghost use Rattle.std.specs.List.{AllZip};
-ghost use Rattle.text_names.specs.Orders.{links_of, AreWithin};
+ghost use Rattle.text_names.specs.Orders.{links_of};
 ghost use Rattle.text_names.specs.Paths.{name_in, paths_of, AddsNeeds, IsNeedOf, IsNeedsOf, IsRefusalOf, RefusesAnyNeed, RefusesNeed};
 ghost use Rattle.text_names.specs.Tables.{IsIndex};
+ghost use Rattle.text_plain.specs.Orders.{AreWithin};
 
 use crate::error::Fault;
 use crate::sources::Sources;

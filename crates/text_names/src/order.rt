@@ -2,8 +2,9 @@
 
 ghost use Rattle.std.specs.Prelude.{◌≡◌, ◌<◌, ◌≤◌, ◌^◌, ◌∷◌, ◌++◌, [], length, slice_set, IfOk, IfErr, OnOk};
 ghost use Rattle.text_names.specs.Faults.{IsMemoryOrSize};
-ghost use Rattle.text_names.specs.Orders.{links_of, AreWithin, Orders};
+ghost use Rattle.text_names.specs.Orders.{links_of, Orders};
 ghost use Rattle.text_names.specs.Walks.{IsWalk, Steps, WalksOn};
+ghost use Rattle.text_plain.specs.Orders.{AreWithin};
 
 use crate::error::Fault;
 use crate::needs::Need;

@@ -1,13 +1,12 @@
 -- What is shown of a declared type is its plain tree. Serves Interfaces.
-use Rattle.std.proofs.Common.{◌≡◌, refl, ap, ◌∙◌, List, [], ◌∷◌, map, filter, None}
-use Rattle.std.specs.{Option.option_map_or, Str.Lines.lines}
+use Rattle.std.proofs.Common.{◌≡◌, refl, ap, ◌∙◌, List, ◌∷◌, map, filter}
 use Rattle.wit_model.specs.declared.model.{Resolve.Resolve, TypeDef.TypeDef, TypeDefKind.TypeDefKind, TypeId.TypeId, TypeOwner.TypeOwner}
-use Rattle.wit_model.specs.declared.model.{Function.Function, Docs.Docs}
+use Rattle.wit_model.specs.declared.model.{Function.Function}
 use Rattle.wit_model.specs.declared.model.{Field.Field, Case.Case, Flag.Flag, EnumCase.EnumCase}
-use Rattle.wit_model.specs.{Text.Text, Text.text_of, Valid.IsValid}
+use Rattle.wit_model.specs.{Text.Text, Valid.IsValid}
 use Rattle.print_grammar.specs.Tree.{TypeTree, Prefix, FieldTree, CaseTree, LabelTree, ResourceMember, Declared}
 use Rattle.print_grammar.specs.Tree.Declared.{RecordOf, VariantOf, FlagsOf, EnumOf, AliasOf, ResourceOf}
-use Rattle.print_items.specs.Shown.{shown_docs, shown_prefix, shown_field, shown_case, shown_flag, shown_enum_case, alias_tree, belongs_to, declared_of}
+use Rattle.print_items.specs.Shown.{shown_prefix, shown_field, shown_case, shown_flag, shown_enum_case, alias_tree, belongs_to, declared_of}
 use Rattle.print_items.specs.Shown.{shown_declared, shown_resource_member}
 use Rattle.text_types.specs.{Each.EachIs, Stands.FormIs, Stands.KindIs}
 use Rattle.text_types.specs.Declares.{FieldIs, CaseIs, FlagIs, EnumCaseIs, DeclaredKind, declared_name, IsNamed, DeclaredStands}
@@ -20,10 +19,6 @@ pub each_mapped : {X Y : Type 0} {Is : X → Y → Type 0} (f : Y → X) → ((x
     → EachIs Is xs ys → map f ys ≡ xs
 each_mapped f same EachIs.no_more = refl
 each_mapped f same (EachIs.one_more {x = x} {y = y} k ks) = λ i. same x y k i ∷ each_mapped f same ks i
-
--- nothing is shown where there is no documentation
-pub none_shown : (docs : Docs) → docs.contents ≡ None → shown_docs docs ≡ []
-none_shown docs none = ap (λ o. option_map_or (λ contents. lines (text_of contents)) o []) none
 
 flag_shown : (tree : LabelTree) (flag : Flag) → FlagIs tree flag → shown_flag flag ≡ tree
 flag_shown tree flag k = λ i. record { docs = k.docs i; name = k.name i }

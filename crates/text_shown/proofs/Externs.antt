@@ -16,8 +16,9 @@ use Rattle.base_lemmas.proofs.{Lists.append_none, Numbers.equal}
 use Rattle.text_shown.specs.{Means.IsUsed, Means.PathIs, Means.TargetIs, Members.HasMembers}
 use Rattle.text_shown.specs.{SameWorlds.SameDocs, SameWorlds.SameExtern, SameWorlds.SameStated, ShowsWorlds.ExternIs, ShowsWorlds.IsInline}
 use Rattle.text_shown.specs.{ShowsWorlds.Stated, ShowsWorlds.StatedIs}
-use Rattle.text_shown.proofs.{Declared.none_shown, Functions.signature_shown, Interfaces.interface_shown}
+use Rattle.text_shown.proofs.{Functions.signature_shown, Interfaces.interface_shown}
 use Rattle.text_shown.proofs.{Targets.path_named, Targets.path_shown, Targets.path_there}
+use Rattle.text_types.proofs.MakingLaws.{nothing_shown}
 
 -- an entry as it is shown
 abbrev pub shown_stated : Resolve → PackageId → WorldEntry → Stated
@@ -52,7 +53,7 @@ module _ (r : Resolve) (valid : IsValid r) (home : PackageId) (p : Package) (at 
           → SameDocs (NamedPath name path) (if is_some docs.contents then shown_docs docs else docs_of_interface own) stated
       go (Some contents) e = docs_stated (ap (λ o. if is_some o then shown_docs docs else docs_of_interface own) e ∙ is)
       go None e = subst (SameDocs (NamedPath name path) (if is_some docs.contents then shown_docs docs else docs_of_interface own))
-          (sym (none_shown docs e) ∙ is) SameDocs.of_interface
+          (sym (nothing_shown docs e) ∙ is) SameDocs.of_interface
 
   inline_docs : (members : List MemberTree) (id own : InterfaceId) (label : String Global) (docs : Docs) → IsInline r home.0 members id → own ≡ id
       → extern_docs r (key.Name label) own docs ≡ shown_docs docs
@@ -62,7 +63,7 @@ module _ (r : Resolve) (valid : IsValid r) (home : PackageId) (p : Package) (at 
           → (if is_some docs.contents then shown_docs docs else docs_of_interface own) ≡ shown_docs docs
       go (Some contents) e = ap (λ o. if is_some o then shown_docs docs else docs_of_interface own) e
       go None e = ap (λ o. if is_some o then shown_docs docs else docs_of_interface own) e ∙ ap docs_of_interface same
-          ∙ ap (λ o. option_map_or (λ i. shown_docs i.docs) o []) has.there ∙ none_shown has.interface.docs has.docs ∙ sym (none_shown docs e)
+          ∙ ap (λ o. option_map_or (λ i. shown_docs i.docs) o []) has.there ∙ nothing_shown has.interface.docs has.docs ∙ sym (nothing_shown docs e)
 
   -- ---- an interface by its path, under a label
 

@@ -1,6 +1,6 @@
 -- What is shown of types is their plain trees. Serves Declared, Functions, Uses.
 pub mod Types
--- What is shown of a declared type is its plain tree. Serves Externs, Functions, Owners, Worlds.
+-- What is shown of a declared type is its plain tree. Serves Functions, Owners.
 pub mod Declared
 -- What is shown of functions is their plain trees. Serves Externs, Resources.
 pub mod Functions

@@ -3,11 +3,11 @@ use Rattle.std.proofs.Common.{◌≡◌, refl, sym, ap, subst, ◌∙◌, ℕ, z
 use Rattle.std.proofs.Common.{arith, inl, inr}
 use Rattle.std.proofs.lemmas.{Grind.flat_map-append}
 use Rattle.std.specs.Prelude.{◌⊎◌, Contains}
-use Rattle.text_names.specs.Orders.{AreApart}
 use Rattle.text_types.specs.Each.{EachIs}
 use Rattle.wit_model.proofs.Elements.{contains-get}
 use Rattle.base_lemmas.proofs.{Elements.contains-later, Elements.get-contains, Lists.none_there}
 use Rattle.text_shown.specs.Same.{Matched, Shuffled}
+use Rattle.text_plain.specs.Orders.{AreApart}
 
 -- ---- in the one order or in the other
 

@@ -20,13 +20,14 @@ use Rattle.text_shown.specs.{Means.TargetIs, Means.PathIs, Members.IsForeign, Sa
 use Rattle.text_shown.specs.ShowsWorlds.{export_of, import_of, world_functions, world_types, ExternIs, IsBare, IsFrontOf, IsInline, IsOneOf, Stated, StatedIs}
 use Rattle.text_shown.specs.SameWorlds.{imported_function, AreSame, IsBareImport, SameStated, SameWorlds}
 use Rattle.text_shown.specs.WorldMembers.{HasWorldMembers, ShowsWorldMembers}
-use Rattle.text_shown.proofs.{Declared.none_shown, Externs.extern_same, Externs.shown_stated, Targets.used_is_foreign}
+use Rattle.text_shown.proofs.{Externs.extern_same, Externs.shown_stated, Targets.used_is_foreign}
 use Rattle.text_shown.proofs.Owners.{Owns, functions_shown, types_shown}
 use Rattle.text_shown.proofs.Parts.{plain_declarations, plain_uses}
 use Rattle.text_shown.proofs.WorldEntries.{as_entry, entries_of, listed_entry, listed_free, listed_functions, listed_interfaces, listed_types}
 use Rattle.text_shown.proofs.WorldEntries.{types_apart as names_apart}
 use Rattle.text_shown.proofs.WorldParts.{all_members, exports_apart, functions_apart, imports_apart, resource_of_members}
 use Rattle.text_shown.proofs.WorldParts.{stated_functions, types_apart}
+use Rattle.text_types.proofs.MakingLaws.{nothing_shown}
 
 -- ---- imports and exports
 
@@ -100,7 +101,7 @@ module _ (r : Resolve) (valid : IsValid r) (home : PackageId) (p : Package) (at 
   bare_import : (entry : WorldEntry) → IsBare entry → IsBareImport (shown_stated r home entry)
   bare_import entry (IsBare.bare id {docs = docs} none) =
       subst (λ ls. IsBareImport (record { prefix = record { docs = ls; gates = Ungated; external_id = None }; extern = Path (shown_path r home id) }))
-      (sym (none_shown docs none))
+      (sym (nothing_shown docs none))
       (IsBareImport.bare_import (shown_path r home id))
 
   imports_same : AreSame here IsBareImport (map (shown_stated r home) h.imports.interfaces) (filter_map import_of members)

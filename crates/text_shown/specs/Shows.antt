@@ -13,20 +13,14 @@ use Rattle.text_names.specs.Contents.{AreFirsts}
 use Rattle.text_types.specs.{Each.EachIs, Made.MembersAre}
 use Rattle.text_shown.specs.Means.{IsUsed}
 use Rattle.text_shown.specs.ShowsWorlds.{ShowsWorld, WorldTree}
+use Rattle.text_plain.specs.Moved.{same_head}
+use Rattle.text_plain.specs.Scopes.{bare_head}
 
 -- ---- which items texts declare
 
 -- the packages of texts, in their order
 abbrev pub packages_of : List FileTree → List PackageTree
 packages_of files = flat_map (λ f. f.main ∷ f.nested) files
-
--- what names a package: its documentation isn't kept
-abbrev pub bare_head : PackageHead → PackageHead
-bare_head head = record head { docs = [] }
-
--- whether two packages have the same name
-abbrev pub same_head : PackageHead → PackageHead → Bool
-same_head a b = text_eq a.namespace b.namespace && text_eq a.name b.name && option_eq text_eq a.version b.version
 
 -- the items of the package of this name, in whichever texts they stand
 abbrev pub items_of : List FileTree → PackageHead → List ItemTree

@@ -8,7 +8,7 @@ pub mod Growth
 pub mod ScopeLaws
 -- Types that are added to a scope, one behind the other. Serves members::add_types, scope::add_use; crates above.
 pub mod AddedLaws
--- What is declared, as definitions grow. Serves declared::add_declared, declared::cases_of, declared::fields_of, declared::kind_of_declared and 1 more.
+-- What is declared, as definitions grow. Serves declared::add_declared, declared::cases_of, declared::fields_of, declared::kind_of_declared and 1 more; crates above.
 pub mod DeclaredLaws
 -- What trees of types are, by what is met of them. Serves lowering::kind_of, lowering::lowered_if_given, lowering::types.
 pub mod FormLaws
@@ -16,7 +16,7 @@ pub mod FormLaws
 pub mod FunctionLaws
 -- What is made of members, as definitions grow and as targets and lookups carry over. Serves scope::make_all; crates above.
 pub mod MadeLaws
--- Types of a scope, as they are made one by one. Serves members::add_used, scope::make, scope::make_used.
+-- Types of a scope, as they are made one by one. Serves members::add_used, scope::make, scope::make_used; crates above.
 pub mod MakingLaws
 -- What is made of the members of an interface, or of a world. Serves members::members_of.
 pub mod MembersMade

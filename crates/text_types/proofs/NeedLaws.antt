@@ -5,10 +5,11 @@ use Rattle.std.proofs.lemmas.{List.length-map, Option.slice_get_read}
 use Rattle.text_names.specs.declared.needs.Need.{Need}
 use Rattle.text_names.specs.declared.order.Order.{Order}
 use Rattle.text_names.specs.declared.order.Order.TheVariants.{Numbers}
-use Rattle.text_names.specs.Orders.{links_of, needed, AreWithin, IsOrder, Orders}
+use Rattle.text_names.specs.Orders.{links_of, IsOrder, Orders}
 use Rattle.text_types.specs.declared.scope.Scope.{Scope}
 use Rattle.text_types.specs.Scopes.{types_in, OrdersTypes}
 use Rattle.text_types.specs.Needed.{AreAllBelow, AreBelow, StayBelow}
+use Rattle.text_plain.specs.Orders.{AreWithin, needed}
 
 pub below_none : {k : ℕ} (a : List Need) → StayBelow k a a
 below_none a = record { stay = λ h. h }

@@ -9,11 +9,11 @@ use Rattle.wit_model.specs.Text.{Text, text_eq, text_of}
 use Rattle.wit_model.specs.declared.model.{TypeDef.TypeDef, TypeId.TypeId, TypeOwner.TypeOwner}
 use Rattle.print_grammar.specs.Tree.{PathTree, MemberTree}
 use Rattle.text_names.specs.declared.sources.Sources.{Sources}
-use Rattle.text_names.specs.Orders.{AreApart}
 use Rattle.text_types.specs.declared.{members.Interfaces.Interfaces, scope.Scope.Scope}
 use Rattle.text_types.specs.{Each.EachIs, Made.IsOfPlace, Made.NameMap, Made.TypeIs, Targets.TargetIn}
 use Rattle.text_types.specs.Making.{AddsEntry, IsTypeOf, MakesUnder}
 use Rattle.text_types.specs.Scopes.{type_name, types_in, Agrees, AreApartByName, OrdersTypes}
+use Rattle.text_plain.specs.Orders.{AreApart}
 
 -- ---- places
 

@@ -10,9 +10,9 @@ use Rattle.wit_model.specs.declared.model.«Type».TheVariants as value
 use Rattle.print_grammar.specs.Tree.{Prefix, SignatureTree, ResourceMember, Declared, PathTree, UsedName, MemberTree}
 use Rattle.print_grammar.specs.Tree.{MemberTree.UseMember, MemberTree.TypeMember, MemberTree.FunctionMember}
 use Rattle.print_grammar.specs.Tree.Declared.{RecordOf, VariantOf, FlagsOf, EnumOf, AliasOf, ResourceOf}
-use Rattle.text_names.specs.Orders.{AreApart}
 use Rattle.text_types.specs.{Each.EachIs, Declares.declared_name, Declares.with_docs, Declares.DeclaredAt, Declares.NamedAt}
 use Rattle.text_types.specs.{Functions.FreeStands, Functions.MemberStands, Plain.plain_declared, Plain.plain_resource_member, Plain.plain_signature}
+use Rattle.text_plain.specs.Orders.{AreApart}
 
 -- a map from names
 abbrev pub NameMap : Type 0 → Type 0

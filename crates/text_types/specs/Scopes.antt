@@ -5,10 +5,10 @@ use Rattle.wit_model.specs.Text.{Text, text_eq}
 use Rattle.wit_model.specs.declared.model.{TypeDef.TypeDef, TypeId.TypeId}
 use Rattle.print_grammar.specs.Tree.{MemberTree, MemberTree.UseMember, MemberTree.TypeMember, MemberTree.FunctionMember}
 use Rattle.text_trees.specs.TreesSeen.{declared_of, path_of, prefix_of, used_name_of}
-use Rattle.text_names.specs.Orders.{AreApart}
 use Rattle.text_types.specs.declared.scope.{Scope.Scope, Own.Own}
 use Rattle.text_types.specs.declared.scope.Own.TheVariants as own
 use Rattle.text_types.specs.{Stands.OwnNameAt, Declares.declared_name, Made.name_here, Made.NameMap}
+use Rattle.text_plain.specs.Orders.{AreApart}
 
 -- the text in which a scope stands
 abbrev pub text_in : Scope → Text

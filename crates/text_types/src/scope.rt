@@ -7,10 +7,11 @@ ghost use Rattle.print_grammar.specs.Tree.{MemberTree.UseMember, MemberTree.Type
 ghost use Rattle.text_trees.specs.{Seen.cut, TreesSeen.declared_of, TreesSeen.path_of, TreesSeen.prefix_of, TreesSeen.used_name_of};
 ghost use Rattle.text_types.specs.{Declares.declared_name, Made.name_here, Made.types_of};
 ghost use Rattle.wit_model.specs.declared.model.TypeDef.{TypeDef as TypeDefModel};
-ghost use Rattle.text_names.specs.Orders.{links_of, AreWithin, IsOrder};
+ghost use Rattle.text_names.specs.Orders.{links_of, IsOrder};
 ghost use Rattle.text_types.specs.Needed.{AreAllBelow, AreBelow};
 ghost use Rattle.text_types.specs.Scopes.{id_under, member_of_own, name_count, text_in, type_name, types_in, AddsTypes, IsCounted, IsFresh};
 ghost use Rattle.text_types.specs.Scopes.{IsPlaced, KeepsPlaced, OrdersTypes, Places};
+ghost use Rattle.text_plain.specs.Orders.{AreWithin};
 
 use crate::needs::needs_of_declared;
 use crate::texts::Text;

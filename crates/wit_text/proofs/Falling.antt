@@ -4,10 +4,10 @@ use Rattle.std.proofs.lemmas.List.Sums.{sum_by-append}
 use Rattle.std.proofs.lemmas.Option.{slice_get_within, get_or_from_slice_get}
 use Rattle.std.proofs.Math.Seq.{drop-cons}
 use Rattle.base_lemmas.proofs.Elements.{contains-later}
-use Rattle.text_names.specs.Orders.{needed}
 use Rattle.wit_text.specs.{Grounds.AreGrounded, Items.WorldEntry, Puts.links, Weights.steps, Weights.frame_steps, Weights.path_steps}
 use Rattle.wit_text.specs.Steps.{Frame, Goes, Goes.is_there, Goes.goes_on, Goes.passes, Goes.is_put}
 use Rattle.wit_text.specs.declared.shown.Walk.{Walk}
+use Rattle.text_plain.specs.Orders.{needed}
 
 pub contains_got : (xs : List ℕ) (i n : ℕ) → slice_get xs i ≡ Some n → Contains xs n
 contains_got xs i n h = (i, slice_get_within xs i n h, get_or_from_slice_get xs i n n h)

@@ -20,10 +20,12 @@ use Rattle.text_names.specs.declared.sources.{InterfaceSource.InterfaceSource, P
 use Rattle.text_names.specs.Contents.{all_heads, all_items, heads_in, is_interface, item_in, items_in, items_of as items_in_text, packages_in, text_at, Item}
 use Rattle.text_names.specs.Tables.{head_there, IsIndex, IsInterface, IsNumberOf, IsWorld}
 use Rattle.text_types.specs.Each.{EachIs}
-use Rattle.text_shown.specs.Shows.{bare_head, interface_of, items_of, packages_of, same_head, world_of, InterfaceTree}
+use Rattle.text_shown.specs.Shows.{interface_of, items_of, packages_of, world_of, InterfaceTree}
 use Rattle.text_shown.specs.ShowsWorlds.{WorldTree}
 use Rattle.text_shown.proofs.{Resources.filter_first, Uses.optional_same}
 use Rattle.wit_text.specs.{Listed.is_of, Listed.is_world_of, Mains.files_of}
+use Rattle.text_plain.specs.Moved.{same_head}
+use Rattle.text_plain.specs.Scopes.{bare_head}
 
 -- ---- packages of texts, and their items
 

@@ -28,7 +28,7 @@ pub mod PathLaws
 pub mod Paths
 -- An order has no cycle. Serves read::resolve_in.
 pub mod Ranks
--- Texts with their trees, as they are read. Serves read::read_trees.
+-- Texts with their trees, as they are read. Serves read::folder_texts_of, read::read_trees.
 pub mod ReadTrees
 -- Trees of texts, one after the other. Serves read::read_trees, trees::trees_of.
 pub mod Refusing

@@ -8,13 +8,13 @@ use Rattle.text_types.proofs.Growth.{begins_none, entry_stays}
 use Rattle.std.proofs.lemmas.Option.{slice_get-get_or, slice_get_read, slice_get_within, get_or_from_slice_get}
 use Rattle.base_lemmas.proofs.Elements.{none_in}
 use Rattle.wit_model.specs.declared.model.TypeDef.{TypeDef}
-use Rattle.text_names.specs.Orders.{AreApart}
 use Rattle.text_names.specs.declared.sources.{InterfaceSource.InterfaceSource, Sources.Sources}
 use Rattle.text_types.specs.declared.members.Interfaces.{Interfaces}
 use Rattle.text_types.specs.Begins.{Begins}
 use Rattle.wit_text.specs.MadeInterfaces.{AddsInterface, AreAllMade, GrowsInterfaces, IsInterfaceMade}
 use Rattle.wit_text.specs.SoFar.{AreMadeSoFar, HasNumber, IsMadeOf, MakesNext}
 use Rattle.wit_text.proofs.WorldsGrow.{interface_carried}
+use Rattle.text_plain.specs.Orders.{AreApart}
 
 no_number : (k n number : ℕ) → slice_get (replicate k None) n ≡ Some (Some number) → ⊥
 no_number k n number h =

@@ -5,10 +5,11 @@ use Rattle.std.proofs.lemmas.Map.Steps.{length-le_from_distinct_below}
 use Rattle.std.proofs.lemmas.Option.{slice_get-get_or, slice_get_past}
 use Rattle.std.proofs.lemmas.Bool.{cases_lt}
 use Rattle.std.specs.List.{list_any, IsDistinct, AllByRecursion}
-use Rattle.text_names.specs.Orders.{needed, Needs, AreApart, IsOrder}
+use Rattle.text_names.specs.Orders.{IsOrder}
 use Rattle.text_shown.proofs.Shuffles.{apart_rest}
 use Rattle.wit_text.specs.Grounds.{AreGrounded}
 use Rattle.wit_text.proofs.Falling.{contains_got}
+use Rattle.text_plain.specs.Orders.{AreApart, Needs, needed}
 
 -- the first place of a number, or the length
 abbrev place_in : List ℕ → ℕ → ℕ

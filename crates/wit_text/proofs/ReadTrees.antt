@@ -6,7 +6,7 @@ use Rattle.std.specs.declared.alloc.Global.{Global}
 use Rattle.wit_model.specs.declared.model.{PackageId.PackageId, Resolve.Resolve}
 use Rattle.wit_model.specs.Valid.{IsValid}
 use Rattle.text_trees.specs.Reads.{IsReadAs}
-use Rattle.text_plain.specs.declared.texts.{FolderText.FolderText, Plain.Plain}
+use Rattle.text_plain.specs.declared.{plain.Plain.Plain, whole.FolderText.FolderText}
 use Rattle.text_plain.specs.{FilesSeen.file_of, Places.folder_text_of, Plain.FilesAre, Plain.FolderText as PlainText}
 use Rattle.text_trees.specs.{TextTree.TextTree, TextTreesSeen.tree_of}
 use Rattle.text_trees.specs.declared.tree.TextTree.{TextTree as CodeText}
@@ -49,7 +49,7 @@ folders_more own list new it grown folder so_far =
     ap (map folder_text_of) grown ∙ map-append folder_text_of list (it ∷ [])
     ∙ ap (λ l. l ++ folder_text_of it ∷ []) so_far
     ∙ ap (λ n. in_folders own (trees_in list) ++ record { folder = n; tree = tree_of it.text.now it.tree.now } ∷ [])
-        (folder ∙ ap (folder_of own) (sym (length-map list (λ (f : FolderText). tree_of f.text.now f.tree.now))))
+    (folder ∙ ap (folder_of own) (sym (length-map list (λ (f : FolderText). tree_of f.text.now f.tree.now))))
     ∙ sym (map-append f (enumerate_from 0 (trees_in list)) ((length (trees_in list), tree_of it.text.now it.tree.now) ∷ []))
     ∙ ap (map f) (sym (enumerate-more (trees_in list) (tree_of it.text.now it.tree.now)))
     ∙ ap (λ l. in_folders own l) (sym (map-append (λ (f : FolderText). tree_of f.text.now f.tree.now) list (it ∷ [])) ∙ ap trees_in (sym grown))

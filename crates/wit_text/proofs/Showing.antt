@@ -1,5 +1,5 @@
 -- A `Resolve` that has what texts declare shows their trees. Serves read.
-use Rattle.text_shown.specs.Shows.{bare_head, InterfaceTree, ShowsFiles, ShowsInterface, ShowsPackage}
+use Rattle.text_shown.specs.Shows.{InterfaceTree, ShowsFiles, ShowsInterface, ShowsPackage}
 use Rattle.text_shown.specs.ShowsWorlds.{ShowsWorld, WorldTree}
 use Rattle.wit_text.proofs.StageLaws.{each_then}
 use Rattle.std.proofs.Common.{◌≡◌, ◌∙◌, sym, ap, subst, ℕ, List, [], ◌∷◌, Some, option_map, slice_get, length, map, filter, String, Global, le_refl}
@@ -17,6 +17,7 @@ use Rattle.wit_text.specs.{Listed.is_of, Listed.is_world_of, Listed.IsListed, Li
 use Rattle.wit_text.proofs.ExternLaws.{exports_carried, imports_carried}
 use Rattle.wit_text.proofs.Filtered.{all_heads_there, interface_tree, interfaces_filtered, world_tree, worlds_filtered, IsInterfaceTree, IsWorldTree}
 use Rattle.wit_text.proofs.Paths.{number_made, stated_shown, target_shown, used_shown}
+use Rattle.text_plain.specs.Scopes.{bare_head}
 
 module _ (s : Sources) (index : IsIndex s) (r : Resolve) (k : IsResolveOf s r) (items : List Item)
     (declared : AllZip (IsInterface s) items s.interfaces.items) where

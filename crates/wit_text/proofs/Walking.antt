@@ -7,7 +7,6 @@ use Rattle.std.proofs.lemmas.List.Folds.{list_any-append}
 use Rattle.std.proofs.lemmas.List.Elements.{filter-append, Contains-append_left, Contains-append_right, Contains-append_cases}
 use Rattle.std.proofs.lemmas.Option.{slice_get-get_or}
 use Rattle.indexmap.specs.IndexMap.{get}
-use Rattle.text_names.specs.Orders.{needed}
 use Rattle.wit_model.specs.declared.model.WorldItem.{WorldItem}
 use Rattle.wit_text.specs.Items.{WorldEntry, has_path, is_path, path_key}
 use Rattle.wit_text.specs.Puts.{goes_to, links, number_at, stands, NeedsStand, MayFollow, Puts, Puts.nothing, Puts.and_one, PutsAll, Reaches, Reaches.is_first, Reaches.goes_on as further}
@@ -16,6 +15,7 @@ use Rattle.text_names.specs.declared.needs.Need.{Need}
 use Rattle.wit_text.specs.Steps.{numbers_of, Frame, Goes, Goes.is_there, Goes.goes_on, Goes.passes, Goes.is_put}
 use Rattle.wit_text.specs.declared.shown.Walk.{Walk}
 use Rattle.wit_text.proofs.Falling.{contains_got}
+use Rattle.text_plain.specs.Orders.{needed}
 
 -- ---- entries that grow
 

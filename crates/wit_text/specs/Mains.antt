@@ -3,7 +3,7 @@ use Rattle.std.specs.Prelude.{ℕ, List, map}
 use Rattle.wit_model.specs.declared.model.PackageId.{PackageId}
 use Rattle.print_grammar.specs.Tree.{FileTree}
 use Rattle.text_plain.specs.FilesSeen.{file_of}
-use Rattle.text_plain.specs.declared.texts.FolderText.{FolderText}
+use Rattle.text_plain.specs.declared.whole.FolderText.{FolderText}
 use Rattle.text_trees.specs.{TextTree.TextTree, TextTreesSeen.tree_of}
 use Rattle.text_names.specs.declared.source.Source.{Source}
 

@@ -3,11 +3,12 @@ use Rattle.std.specs.Prelude.{◌≡◌, ◌<◌, ◌&&◌, ◌||◌, not, Bool,
 use Rattle.std.specs.Prelude.{Option, Some, None, is_some, slice_get, unwrap_or}
 use Rattle.std.specs.{Borrow.Bor, Option.option_and_then}
 use Rattle.indexmap.specs.IndexMap.{get}
-use Rattle.text_names.specs.Orders.{links_of, Needs}
+use Rattle.text_names.specs.Orders.{links_of}
 use Rattle.text_trees.specs.declared.tree.Prefix.{Prefix}
 use Rattle.wit_model.specs.declared.model.WorldItem.{WorldItem}
 use Rattle.wit_text.specs.Items.{WorldEntry, path_key, has_path, bare_item, IsStated}
 use Rattle.wit_text.specs.declared.shown.Walk.{Walk}
+use Rattle.text_plain.specs.Orders.{Needs}
 
 -- an interface of the texts, by its number among those that are made
 abbrev pub number_at : List (Option ℕ) → ℕ → ℕ

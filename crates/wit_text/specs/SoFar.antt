@@ -3,9 +3,9 @@ use Rattle.std.specs.Prelude.{◌≡◌, ◌<◌, ◌+◌, ℕ, List, length, ta
 use Rattle.std.specs.List.{slice_index_or}
 use Rattle.wit_model.specs.declared.model.{Interface.Interface, Resolve.Resolve, TypeDef.TypeDef, World.World}
 use Rattle.text_names.specs.declared.sources.{InterfaceSource.InterfaceSource, Sources.Sources, WorldSource.WorldSource}
-use Rattle.text_names.specs.Orders.{AreApart}
 use Rattle.text_types.specs.declared.members.Interfaces.{Interfaces}
 use Rattle.wit_text.specs.{Listed.ListsPackages, MadeInterfaces.AreAllMade, MadeInterfaces.IsInterfaceMade, MadeWorlds.AreWorldsMade, MadeWorlds.IsEachWorldMade}
+use Rattle.text_plain.specs.Orders.{AreApart}
 
 -- What has this number is made of the interface of the other number of the texts.
 pub record IsMadeOf (s : Sources) (interfaces : Interfaces) (defs : List TypeDef) (n number : ℕ) : Type 0 where

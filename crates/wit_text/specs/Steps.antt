@@ -1,12 +1,12 @@
 -- The steps of a walk that puts interfaces.
 use Rattle.std.specs.Prelude.{◌≡◌, ◌+◌, true, false, ℕ, nat_eq, List, [], ◌∷◌, ◌++◌, Some, None, map, slice_get}
 use Rattle.indexmap.specs.IndexMap.{get}
-use Rattle.text_names.specs.Orders.{needed}
 use Rattle.text_names.specs.declared.needs.Need.{Need}
 use Rattle.wit_model.specs.declared.model.WorldItem.{WorldItem}
 use Rattle.wit_text.specs.Items.{WorldEntry, path_key}
 use Rattle.wit_text.specs.Puts.{goes_to, links, number_at, stands, IsDeclared, IsFronted}
 use Rattle.wit_text.specs.declared.shown.Walk.{Walk}
+use Rattle.text_plain.specs.Orders.{needed}
 
 -- an interface on the path of a walk, and how many of its needs are done
 abbrev pub Frame : Type 0

@@ -1,7 +1,7 @@
 -- How long a walk is.
 use Rattle.std.specs.Prelude.{ℕ, suc, zero, List, drop, length, sum_by}
-use Rattle.text_names.specs.Orders.{needed}
 use Rattle.wit_text.specs.Steps.{Frame}
+use Rattle.text_plain.specs.Orders.{needed}
 
 -- how many steps a walk takes from an interface with these needs left, where nothing is reached over more needs than this
 unfoldable pub steps : List (List ℕ) → ℕ → List ℕ → ℕ

@@ -4,7 +4,8 @@ ghost use Rattle.std.specs.Prelude.{◌≡◌, ◌<◌, ℕ, [], length, map, st
 ghost use Rattle.std.specs.List.{AllZip};
 ghost use Rattle.text_plain.specs.{FilesSeen.file_of, Places.folder_text_of};
 ghost use Rattle.text_trees.specs.Reads.{IsReadAs};
-ghost use Rattle.text_names.specs.{Orders.links_of, Orders.AreApart, Orders.AreWithin, Orders.IsOrder, Tables.IsIndex};
+ghost use Rattle.text_names.specs.{Orders.links_of, Orders.IsOrder, Tables.IsIndex};
+ghost use Rattle.text_plain.specs.Orders.{AreApart, AreWithin};
 ghost use Rattle.text_types.specs.Kept.{defs_of, Grows};
 ghost use Rattle.wit_model.specs.Valid.{IsValid};
 ghost use Rattle.text_shown.specs.Shows.{ShowsFiles};

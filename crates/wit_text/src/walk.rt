@@ -2,7 +2,8 @@
 
 ghost use Rattle.std.specs.Prelude.{◌≡◌, ◌+◌, ◌<◌, ◌^◌, ◌∷◌, [], false, filter, nat_eq, slice_get, OnOk, IfOk, IfSome};
 ghost use Rattle.indexmap.specs.IndexMap.{get};
-ghost use Rattle.text_names.specs.Orders.{links_of, needed};
+ghost use Rattle.text_names.specs.Orders.{links_of};
+ghost use Rattle.text_plain.specs.Orders.{needed};
 ghost use Rattle.wit_text.specs.{Items.has_path, Steps.numbers_of, Steps.Goes, Steps.PutsOne};
 ghost use Rattle.wit_text.specs.Puts.{goes_to as goes_to_lem, number_at, stands as stands_lem, IsFronted, PutsAll};
 

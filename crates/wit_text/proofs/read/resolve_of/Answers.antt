@@ -1,7 +1,8 @@
 use Rattle.std.proofs.Common.{◌∙◌, ap, length, List, Vec, subst, sym}
 use Rattle.std.proofs.lemmas.Slice.Zip.{AllZip-long}
 use Rattle.std.specs.declared.alloc.Global.{Global}
-use Rattle.text_names.specs.{Orders.links_of, Orders.AreWithin, Paths.IsNeedsOf}
+use Rattle.text_names.specs.{Orders.links_of, Paths.IsNeedsOf}
+use Rattle.text_plain.specs.Orders.{AreWithin}
 use Rattle.text_names.specs.declared.needs.Need.{Need}
 use Rattle.wit_text.proofs.read.resolve_of.Goals as goal
 

@@ -1,9 +1,9 @@
 use Rattle.std.proofs.Common.{◌≡◌, ◌∙◌, ◌++◌, ◌∷◌, [], ap, sym, subst, List, true, false, slice_get, Some, None, arith}
-use Rattle.text_names.specs.Orders.{needed}
 use Rattle.wit_text.specs.Puts.{goes_to, links, number_at, stands}
 use Rattle.wit_text.specs.Steps.{Frame, Goes, Goes.is_there, Goes.goes_on, Goes.passes, Goes.is_put, PutsOne}
 use Rattle.wit_text.proofs.{Keys.has_tested, Walking.on_ok}
 use Rattle.wit_text.proofs.walk.step.Goals as goal
+use Rattle.text_plain.specs.Orders.{needed}
 
 pub returns-then-has : goal.returns-then-has
 returns-then-has c =
