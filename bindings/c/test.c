@@ -228,7 +228,7 @@ static void refused_texts(void) {
     want(refuses_texts(it, 2, SIZE_MAX, WITC_BAD_ARGUMENT, why_of(WITC_BAD_COUNT, 0, WITC_NOWHERE), count));
     want(refuses_texts(it, 2, 2, WITC_BAD_ARGUMENT, why_of(WITC_NOT_UTF8, 1, WITC_NOWHERE), "text 1 isn't UTF-8"));
     want(refuses_texts(&place, 1, 1, WITC_REFUSED, why_of(WITC_BAD_TEXT, 0, 29), "text 0: line 3, column 11: no token begins here"));
-    want(refuses_texts(&empty, 1, 1, WITC_REFUSED, why_of(WITC_BAD_TEXT, 0, 0), "empty.wit: line 1, column 1: expected `package`"));
+    want(refuses_texts(&empty, 1, 1, WITC_REFUSED, why_of(WITC_BAD_TEXT, 0, 0), "empty.wit: line 1, column 1: no `package` in this text, nor in another of its folder"));
 }
 
 int main(int count, char **words) {

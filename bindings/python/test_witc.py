@@ -235,7 +235,7 @@ class Calls(unittest.TestCase):
         refusals = {
             (23, 0, 54, "files.wit: line 4, column 7: no text has this package"): [[("files.wit", files)]],
             (23, 1, 29, "text 1: line 3, column 11: no token begins here"): [[("clock.wit", clock), ("", place)]],
-            (23, 0, 0, "text 0: line 1, column 1: expected `package`"): [[("", "")]],
+            (23, 0, 0, "text 0: line 1, column 1: no `package` in this text, nor in another of its folder"): [[("", "")]],
             (24, 1, None, "files.wit and clock.wit begin with two packages"): [[("files.wit", files), ("clock.wit", clock)]],
             (18, 0, None, "text 0 isn't UTF-8"): [[("", b"package a:b; \xff"), ("b", b"\xff")]],
             (18, 1, None, "b.wit isn't UTF-8"): [[("", "package a:b; oh"), ("b.wit", b"\xff")]],

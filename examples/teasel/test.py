@@ -248,7 +248,7 @@ world w {
 
     def test_a_text_is_written_in_one_way(self):
         text = b"// a\n@since(version = 1.0.0)\ninterface i {}\n"
-        self.refused("standard input: line 2, column 1: expected `package`", "@since(version = 1.0.0)\n  ^", "text", stdin=text)
+        self.refused("standard input: line 1, column 1: no `package` in this text, nor in another of its folder", "// a\n  ^", "text", stdin=text)
         text = b"/// a\npackage %a : b@1.0.0-rc.1 ;\ninterface %bool{type t=own<r>;f:func(a:own<r>,)->r;resource r{}}"
         wanted = b"package a:b@1.0.0-rc.1;\n\ninterface %bool {\n  resource r;\n\n  type t = own<r>;\n\n  f: func(a: r) -> r;\n}\n\n"
         self.assertEqual(self.answer("text", stdin=text), wanted)
@@ -324,7 +324,7 @@ world w {
     def test_an_inclusion_and_a_text_without_a_package(self):
         self.assertEqual(self.answer("text", self.folder(self.INCLUDING)).decode(), self.INCLUDED)
         bad = {**self.INCLUDING, "b.wit": self.INCLUDING["b.wit"].replace("f as g", "e as g")}
-        self.refused("wit/b.wit: line 4, column 24: what is included has nothing of this name", "  include c:d/v with { e as g }\n                       ^", "text", self.folder(bad))
+        self.refused("wit/b.wit: line 4, column 24: what is included has nothing of this name", "  include c:d/v with { e as g }\n                         ^", "text", self.folder(bad))
 
     def test_a_folder_is_its_package(self):
         wit = self.folder({**self.OWN, **self.USED})
@@ -360,7 +360,7 @@ world w {
         bad = "package a:b"
         for path in "deps/b/a.wit", "deps/a/c.wit", "deps/a.wit", "z.wit", "B.wit":
             self.folder({path: bad})
-            self.refused(f"wit/{path}: line 1, column 12: expected `;`", f"{bad}\n             ^", "text", "wit")
+            self.refused(f"wit/{path}: line 1, column 12: expected `{{`", f"{bad}\n             ^", "text", "wit")
 
     def test_what_is_passed_over(self):
         wit = self.folder({**self.OWN, **self.USED})
@@ -373,7 +373,7 @@ world w {
         self.assertEqual(self.answer("text", wit).decode(), self.WANTED)
         # A folder in deps is read also where its name is that of a text.
         self.folder({"deps/folder.wit/x.wit": "package a:b"})
-        self.refused("wit/deps/folder.wit/x.wit: line 1, column 12: expected `;`", "package a:b\n             ^", "text", wit)
+        self.refused("wit/deps/folder.wit/x.wit: line 1, column 12: expected `{`", "package a:b\n             ^", "text", wit)
 
     def test_deps_that_is_a_file(self):
         self.folder({"a.wit": "package a:b;\ninterface i {\n  f: func();\n}\n", "deps": "no folder"})
@@ -602,7 +602,7 @@ class Inputs(Room):
 
     def test_texts_that_are_refused(self):
         for text, place, message, line, marks in (
-            ("interface i {}\n", "line 1, column 1", "expected `package`", "interface i {}", "^"),
+            ("interface i {}\n", "line 1, column 1", "no `package` in this text, nor in another of its folder", "interface i {}", "^"),
             ("\n  // é\npackage a:b;\n\ninterface i {\n\tf: func() -> ;\n}\n", "line 6, column 15", "expected a type", "\tf: func() -> ;", "\t             ^"),
             ("package a:b;\ninterface i {\n  f: func(x: lst);\n}\n", "line 3, column 14", "there is no type of this name here", "  f: func(x: lst);", "             ^^^"),
             ("package a:b; interface i { use c:d/e.{t}; }", "line 1, column 32", "no text has this package", None, " " * 31 + "^^^"),
