@@ -1,9 +1,9 @@
 -- A text that stands in another one has there what it has. Serves spans::copy_span.
 pub mod Cuts
 -- A walk along needs keeps what is said of it at each step, and comes to its end. Serves order::order_of, order::step; crates above.
-mod WalkLaws
+pub mod WalkLaws
 -- The whole text as it grows, and the places of texts in it. Serves whole::placed_texts, whole::whole_of; crates above.
-mod WholeLaws
+pub mod WholeLaws
 -- Inclusions of worlds, written out. Serves expand::add_all, expand::add_name, expand::add_parts, expand::add_renamed and 7 more.
 mod ExpandLaws
 -- Plain files, with what worlds have. Serves plain::files_in, plain::files_within, writing::add_item, writing::files_of and 4 more.
@@ -14,7 +14,7 @@ mod MapLaws
 mod MergeLaws
 -- What worlds include, by number. Serves expand::nothing_done, needs::needs_of_worlds.
 mod NeedLaws
--- The types of a tuple, as a row and as a list. Serves types, types::tuple_of.
+-- The types of a tuple, as a row and as a list. Serves types.
 pub mod Rows
 -- Packages of texts: what names them, and the names at their top. Serves expand::add_name, scopes::add_head, scopes::add_item, scopes::heads_of and 8 more.
 mod ScopeLaws
