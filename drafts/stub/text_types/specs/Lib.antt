@@ -1,0 +1,13 @@
+pub mod Plain
+pub mod Begins
+pub mod Stands
+pub mod Kept
+pub mod Scopes
+pub mod Refusals
+pub mod Each
+pub mod Declares
+pub mod Functions
+pub mod Seen
+pub mod Targets
+pub mod Made
+pub mod Making
