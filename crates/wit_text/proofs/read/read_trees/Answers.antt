@@ -10,6 +10,6 @@ pub returns-in-Ok : goal.returns-in-Ok
 returns-in-Ok c = record {
   reads =
       reads_all c.packages_are_shown.ensures (map (λ t. t.now) c.args.texts.now) c.args.own c.in_ok-list.list.items c.in-Ok.plain c.in_ok-list.ensures.folders
-      c.in_ok-list.ensures.read (subst (λ l. FilesAre (map folder_text_of l) (map (file_of (string_bytes c.in-Ok.plain.whole)) c.in-Ok.plain.files.items)) c.deref.ensures.value c.in-Ok.ensures.ok)
+      c.in_ok-list.ensures.read (subst (λ l. FilesAre (map folder_text_of l) (map (file_of (string_bytes c.in-Ok.plain.whole)) c.in-Ok.plain.files.items)) c.deref.ensures.value c.in-Ok.ensures)
       c.read_plain.result c.read_plain.ensures.valid c.read_plain.ensures.shows;
 }
